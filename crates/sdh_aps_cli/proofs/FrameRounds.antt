@@ -7,7 +7,6 @@ use Rattle.std.specs.Io.KnownBytes.{Appends}
 use Rattle.std.proofs.KnownBytes.{Appends-trans}
 use Rattle.std.proofs.lemmas.Grind.{flat_map-append}
 use Rattle.sdh_outside.specs.Writing.{AppendsFewer}
-use Rattle.sdh_outside.proofs.Pieces.{fewer_behind}
 use Rattle.sdh_ringmap.specs.Fibres.{fibre}
 use Rattle.sdh_plant.specs.Fibres.{Arrival, Fibres}
 use Rattle.sdh_plant.specs.Arrivals.{carried_on}
@@ -54,6 +53,10 @@ module _ (ask : FrameWindow) where
     abbrev last : Sent
     last = sent_last (at (suc k))
 
+    -- the frames of one round alone
+    of_one : frames_bytes ask (last ∷ []) ≡ bytes (frame_of ask last)
+    of_one = ap bytes (append-nil (frame_of ask last))
+
     one_more : frames_bytes ask (frames_sent_in (suc k) at) ≡ frames_bytes ask (frames_sent_in k at) ++ bytes (frame_of ask last)
     one_more =
         ap bytes (flat_map-append (frame_of ask) (frames_sent_in k at) (last ∷ [])
@@ -76,9 +79,7 @@ module _ (ask : FrameWindow) where
 
       pub cut_more : (text : List ℕ) (old mid new : Option (List ℕ)) → bytes (frame_of ask last) ≡ text → FramesAreWritten ask at k old mid
           → AppendsFewer mid new text → AreCut ask at (suc k) old new
-      cut_more text old mid new is x front =
-          subst (AppendsFewer old new) (sym (one_more ∙ ap (λ l. frames_bytes ask (frames_sent_in k at) ++ l) is))
-          (fewer_behind old mid new (frames_bytes ask (frames_sent_in k at)) text x.written front)
+      cut_more text old mid new is x front = (k, refl, (mid, x.written, subst (AppendsFewer mid new) (sym (of_one ∙ is)) front))
 
 -- ---- what was asked of the ring and of the plant, in the course
 

@@ -5,7 +5,8 @@ use Rattle.std.specs.Prelude.{◌⊎◌, Option, map, All}
 use Rattle.std.specs.List.{flat_map}
 use Rattle.std.specs.Io.KnownBytes.{Appends}
 use Rattle.std.proofs.lemmas.Grind.{flat_map-append}
-use Rattle.sdh_outside.specs.Writing.{AppendsFewer}
+use Rattle.sdh_shell.specs.Writing.{Parts, AppendsUpTo}
+use Rattle.sdh_shell.proofs.Writing.{up_to}
 use Rattle.sdh_plant.specs.Fibres.{Fibres, IsHonest}
 use Rattle.sdh_plant.specs.Arrivals.{Knows}
 use Rattle.sdh_ringmap.specs.declared.terms.Rate.{Rate}
@@ -25,7 +26,7 @@ use Rattle.sdh_scripts.specs.Scripts as scripts
 use Rattle.sdh_scripts.specs.Texts.{WriteFailed}
 use Rattle.sdh_scripts.specs.Streams.{NoneMade, WroteSteps, LastTold, StoppedTold, CutTold}
 use Rattle.sdh_scripts.proofs.Outcomes.{refused_ends}
-use Rattle.sdh_scripts.proofs.Streams.{stopped_told, cut_told}
+use Rattle.sdh_scripts.proofs.Streams.{stopped_told, cut_told, so_far_of}
 use Rattle.sdh_scripts.specs.Plans.{Comes}
 use Rattle.sdh_scripts.specs.Plans as plans
 use Rattle.sdh_scripts.proofs.Plans.{comes_of, known_then, settles_then, done_of}
@@ -243,28 +244,29 @@ module _ (settles : ScriptsSettle) (signals : ScriptsGoAsSignals) (steps_go : St
       reports status.Ok left went
 
   -- what was to be written where a write failed
-  cut_owes : f.honest ≡ true → (ended begun : List Signalled) (left : World)
-      → CutTold signalling_walk plan.limit plan.steps (world_of plan f) ended begun left → CutOwes plan ended begun
-  cut_owes h ended begun left x = elim x.was [
+  cut_owes : f.honest ≡ true → (done shown ended begun : List Signalled) (left : World)
+      → CutTold signalling_walk plan.limit plan.steps (world_of plan f) done shown ended begun left → CutOwes plan ended begun
+  cut_owes h done shown ended begun left x = elim x.was [
     | inl b ↦ (let so =
         steps_go plan.settings plan.nodes (provisioning_of plan) f (may_start plan f fits (honest h)) plan.limit new_past x.gone x.later
-        (steps_as (x.gone ++ step.Settle ∷ x.later) x.steps_are) x.reports x.mid x.went (length x.reports + 1) b.0.told b.0.mid b.0.so_far in
-        let one : AreFirstRounds plan x.reports status.WriteFault b.0.told = record {
+        (steps_as (x.gone ++ step.Settle ∷ x.later) x.steps_are) done x.mid x.went (length done + 1) b.1 left
+        (so_far_of signalling_walk plan.limit (length done + 1) x.mid b.0 b.1 left b.2) in
+        let one : AreFirstRounds plan done status.WriteFault b.1 = record {
           count = so.count;
           few = so.few;
           all = λ k unsettled. absurd (grind arith);
           shown =
-              subst (λ l. AreOfTheNext (ring_of plan) plan.nodes [] (scenes [] l) x.reports so.count b.0.told.changes) (sym x.steps_are)
+              subst (λ l. AreOfTheNext (ring_of plan) plan.nodes [] (scenes [] l) done so.count b.1.changes) (sym x.steps_are)
               so.shown;
         } in
         record {
           gone = x.gone;
           later = step.Settle ∷ x.later;
           steps_are = x.steps_are;
-          shown = subst (ShownOf x.gone) (sym b.1) (gone_shown h x.gone (step.Settle ∷ x.later) x.steps_are x.reports x.mid x.went);
+          shown = subst (ShownOf x.gone) (sym b.4) (gone_shown h x.gone (step.Settle ∷ x.later) x.steps_are done x.mid x.went);
           next =
-              subst (λ l. All (AreFirstRounds plan ended status.WriteFault) l) (sym b.2)
-              (of_one ended status.WriteFault (subst (λ rs. AreFirstRounds plan rs status.WriteFault b.0.told) (sym b.1) one));
+              subst (λ l. All (AreFirstRounds plan ended status.WriteFault) l) (sym b.5)
+              (of_one ended status.WriteFault (subst (λ rs. AreFirstRounds plan rs status.WriteFault b.1) (sym b.4) one));
         })
     | inr e ↦ (let all = x.gone ++ step.Settle ∷ [] in
         let are : plan.steps ≡ all ++ x.later = x.steps_are ∙ sym (append_assoc x.gone (step.Settle ∷ []) x.later) in
@@ -273,10 +275,10 @@ module _ (settles : ScriptsSettle) (signals : ScriptsGoAsSignals) (steps_go : St
           later = x.later;
           steps_are = are;
           shown =
-              subst (ShownOf all) (sym e.2)
-              (gone_shown h all x.later are (x.reports ++ e.0 ∷ []) left
-              (settled_more plan.limit 0 x.gone (world_of plan f) x.mid x.reports e.0 left (length x.reports + 1) (omega arith) x.went e.1));
-          next = subst (λ l. All (AreFirstRounds plan ended status.WriteFault) l) (sym e.3) (no_rounds ended status.WriteFault);
+              subst (ShownOf all) (sym e.3)
+              (gone_shown h all x.later are (done ++ e.0 ∷ []) left
+              (settled_more plan.limit 0 x.gone (world_of plan f) x.mid done e.0 left (length done + 1) (omega arith) x.went e.1));
+          next = subst (λ l. All (AreFirstRounds plan ended status.WriteFault) l) (sym e.4) (no_rounds ended status.WriteFault);
         })
   ]
     where
@@ -286,20 +288,24 @@ module _ (settles : ScriptsSettle) (signals : ScriptsGoAsSignals) (steps_go : St
   -- a run in which a write failed
   pub cut_run : (old new : Option (List ℕ)) (left : World)
       → WriteFailed signalling_walk plan.limit (ended_of listing) (begun_of listing) plan.steps (world_of plan f) old new left
-      → (pieces : List Piece) × IsCutRun plan f pieces left.fibres × AppendsFewer old new (pieces_text listing pieces)
+      → (text : Parts) × IsCutRun listing plan f text left.fibres × AppendsUpTo old new text
   cut_run old new left y =
-      let told = cut_told signalling_walk plan.limit (ended_of listing) (begun_of listing) plan.steps (world_of plan f) old new left y in (
-        pieces_of told.0 told.1,
+      let told = cut_told signalling_walk plan.limit (ended_of listing) (begun_of listing) plan.steps (world_of plan f) old new left y in
+      let before = flat_map (ended_of listing) y.reports ++ y.first in (
+        record { first = before; last = y.last },
         record {
-          ended = told.0;
-          begun = told.1;
+          done = y.reports;
+          shown = told.0;
+          ended = told.1;
+          begun = told.2;
           last = left;
           last_is = refl;
-          cut = told.2;
-          owed = λ h. cut_owes h told.0 told.1 left told.2;
-          pieces_are = refl;
+          cut = told.3;
+          owed = λ h. cut_owes h y.reports told.0 told.1 told.2 left told.3;
+          first_is = told.4 ∙ sym (all_pieces listing y.reports told.0);
+          text_is = told.5 ∙ sym (all_pieces listing told.1 told.2);
         },
-        subst (AppendsFewer old new) (sym (all_pieces listing told.0 told.1)) told.3,
+        up_to old y.front.0 new before y.last y.front.1 y.front.2,
       )
 
 -- ---- how it ends

@@ -1,11 +1,10 @@
 -- One round more of a settle step, recorded.
-use Rattle.std.proofs.Common.{◌≡◌, ℕ, suc, ◌+◌, ◌≤◌, Bool, true, List, ◌++◌, length, Option, ap, sym, ◌∙◌, subst, arith}
+use Rattle.std.proofs.Common.{◌≡◌, ℕ, suc, ◌+◌, ◌≤◌, Bool, true, List, ◌++◌, length, Option, refl, ap, sym, ◌∙◌, subst, arith}
 use Rattle.std.specs.Io.KnownBytes.{Appends}
 use Rattle.std.proofs.KnownBytes.{Appends-nil, Appends-trans}
 use Rattle.std.proofs.lemmas.Grind.{flat_map-append}
 use Rattle.sdh_basics.specs.Causes.{Rose, one_more}
 use Rattle.sdh_outside.specs.Writing.{AppendsFewer}
-use Rattle.sdh_outside.proofs.Pieces.{fewer_behind}
 use Rattle.sdh_node.specs.Stations.{adm}
 use Rattle.sdh_rounds.proofs.Runs.{held_round}
 use Rattle.sdh_node.specs.Rings.Held.{HeldRing}
@@ -67,8 +66,7 @@ module _ (at : ℕ → World) (k : ℕ) (ring : HeldRing) (ran : RanOne at k rin
     -- what is recorded where only the first bytes of the round's lines were written
     pub cut_more : (before : Written) (old mid new : Option (List ℕ)) → IsRecorded listing at k items before old mid
         → AppendsFewer mid new text → IsCut listing at (suc k) old new
-    cut_more before old mid new x front =
-        subst (AppendsFewer old new) all_text (fewer_behind old mid new (changes_text listing (changes_shown_in k at)) text x.written front)
+    cut_more before old mid new x front = (k, refl, (mid, x.written, subst (AppendsFewer mid new) text_is front))
 
 -- ---- writes
 

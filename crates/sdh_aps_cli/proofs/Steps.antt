@@ -1,10 +1,11 @@
 -- A settle step of whose rounds lines are written, and the script that goes on.
-use Rattle.std.proofs.Common.{◌≡◌, ℕ, ◌-◌, List, length, Option, refl, ap, sym, ◌∙◌, subst, arith, inl, inr}
+use Rattle.std.proofs.Common.{◌≡◌, ℕ, suc, ◌-◌, List, [], ◌∷◌, ◌++◌, length, Option, refl, ap, sym, ◌∙◌, subst, arith, inl, inr}
 use Rattle.std.specs.Prelude.{Result, Ok, Err, OnOk, OnErr}
 use Rattle.std.specs.Io.KnownBytes.{Appends}
 use Rattle.std.proofs.KnownBytes.{Appends-trans}
 use Rattle.sdh_outside.specs.Writing.{AppendsFewer}
-use Rattle.sdh_outside.proofs.Pieces.{fewer_behind}
+use Rattle.std.specs.List.{flat_map}
+use Rattle.std.proofs.lemmas.Grind.{flat_map-append}
 use Rattle.sdh_node.specs.Stations.{adm}
 use Rattle.sdh_rounds.proofs.Runs.{course_whole}
 use Rattle.sdh_node.specs.Rings.Held.{HeldRing}
@@ -17,14 +18,16 @@ use Rattle.sdh_report.specs.Written.{Written}
 use Rattle.sdh_scripts.specs.Runners.{WroteStep}
 use Rattle.sdh_rounds.specs.declared.faults.SettleError.{SettleError}
 use Rattle.sdh_rounds.specs.declared.faults.SettleError.TheVariants as settling
-use Rattle.sdh_scripts.specs.Tellers.{Begun, InStep, WasToWrite, WroteBegun, step_error}
+use Rattle.sdh_scripts.specs.Tellers.{Begun, InStep, WasToWrite, CutIn, WroteBegun, step_error}
 use Rattle.sdh_scripts.proofs.Reporting.{ended_with}
 use Rattle.sdh_owed.proofs.Steps.{settled_held}
 use Rattle.sdh_report.specs.Written.{room_in}
 use Rattle.sdh_aps.specs.declared.shown.Shown.{Shown}
-use Rattle.sdh_aps_cli.specs.Signalled.{Signalled, signalled_in, changes_shown_in}
+use Rattle.sdh_aps_cli.specs.Signalled.{Signalled, signalled_in, shown_changes, changes_shown_in}
+use Rattle.sdh_aps_cli.specs.Frames.{sent_last, frames_sent_in, frame_of, frames_of, frames_bytes}
+use Rattle.sdh_aps_cli.specs.declared.window.FrameWindow.{FrameWindow}
 use Rattle.sdh_aps_cli.specs.Scripts.{signalling_walk}
-use Rattle.sdh_aps_cli.specs.Listing.{changes_text, begun_text, ended_text}
+use Rattle.sdh_aps_cli.specs.Listing.{change_text, changes_text, begun_text, ended_text}
 use Rattle.sdh_aps_cli.specs.Recording.{IsReady}
 use Rattle.sdh_aps_cli.specs.declared.listing.SignalListing.{SignalListing}
 
@@ -105,22 +108,29 @@ module _ (w left : World) (limit number : ℕ) (text_of begun_of : Signalled →
   not_ended settling.Unsettled r is ran some wrote = unsettled_some (ran is) wrote
   not_ended settling.PlantFault r is ran some wrote = begun_some (on_err_is r settling.PlantFault is some) wrote
 
-  -- a settle step in which a write failed: only the first bytes of what is written of its rounds were written
-  pub cut_some : RanSome adm kept_of w limit left
-      → ((at : ℕ → World) (k : ℕ) → kept_of at k → AppendsFewer old new (begun_of (signalled_in number at k)))
-      → (text : List ℕ) × WasToWrite signalling_walk limit number text_of begun_of w text left × AppendsFewer old new text
-  cut_some x front =
+  -- A settle step in which a write failed: what is written of the rounds before the last one was written, and of what the
+  -- last one adds only the first bytes. `adds at j` is what round j + 1 of a course adds.
+  pub cut_some : (adds : (ℕ → World) → ℕ → List ℕ) → RanSome adm kept_of w limit left
+      → ((at : ℕ → World) (j : ℕ) → begun_of (signalled_in number at j) ++ adds at j ≡ begun_of (signalled_in number at (suc j)))
+      → ((at : ℕ → World) (k : ℕ) → kept_of at k → (j : ℕ) × (k ≡ suc j) × CutIn old new (begun_of (signalled_in number at j)) (adds at j))
+      → (first : List ℕ) × (last : List ℕ) × WasToWrite signalling_walk limit number text_of begun_of w first last left
+      × CutIn old new first last
+  unfolding in_step
+  cut_some adds x more front =
       let at = course_with x.rounds w in
-      let k = length x.rounds in (
-        begun_of (signalled_in number at k),
-        inl (record {
-          mid = left;
-          told = signalled_in number at k;
-          so_far = inl (in_step left x);
-          next = inl refl;
-          text_is = refl;
-        }),
-        front at k x.kept,
+      let k = length x.rounds in
+      let cut = front at k x.kept in
+      let j = cut.0 in (
+        begun_of (signalled_in number at j),
+        adds at j,
+        inl (
+          signalled_in number at j,
+          signalled_in number at k,
+          inl (in_step left x, j, cut.1, refl),
+          refl,
+          more at j ∙ ap (λ n. begun_of (signalled_in number at n)) (sym cut.1),
+        ),
+        cut.2,
       )
 
   -- a settle step that ended, and what is written of it was written
@@ -166,14 +176,36 @@ module _ (w left : World) (limit number : ℕ) (listing : SignalListing) (old ne
   -- only the first bytes of these lines were written
   pub cut_line : (first : SignalListing) → first ≡ listing → (mid : Option (List ℕ)) → Appends old mid (changes_text first (changes_shown_in ran at))
       → AppendsFewer mid new (settle_line number (left.ring.rounds - 1))
-      → (text : List ℕ) × WasToWrite signalling_walk limit number (ended_text listing) (begun_text listing) w text left
-      × AppendsFewer old new text
+      → (text : List ℕ) × (last : List ℕ)
+      × WasToWrite signalling_walk limit number (ended_text listing) (begun_text listing) w text last left × CutIn old new text last
   cut_line first same mid before line = (
-    ended_text listing (signalled_in number at ran),
-    inr (signalled_in number at ran, ended_with signalling_walk refl limit number w left x.settles, refl),
-    fewer_behind old mid new (changes_text listing (changes_shown_in ran at)) (settle_line number ((at ran).ring.rounds - 1))
-        (subst (λ l. Appends old mid (changes_text l (changes_shown_in ran at))) same before) (subst (AppendsFewer mid new) line_is line),
+    begun_text listing (signalled_in number at ran),
+    settle_line number ((at ran).ring.rounds - 1),
+    inr (signalled_in number at ran, ended_with signalling_walk refl limit number w left x.settles, refl, refl),
+    (
+      mid,
+      subst (λ l. Appends old mid (changes_text l (changes_shown_in ran at))) same before,
+      subst (AppendsFewer mid new) line_is line,
+    ),
   )
+
+-- ---- what one more round adds
+
+-- to the lines of a settle step
+pub lines_add : (listing : SignalListing) (number : ℕ) (at : ℕ → World) (j : ℕ)
+    → begun_text listing (signalled_in number at j) ++ changes_text listing (shown_changes (at j).ring (at (suc j)).ring)
+    ≡ begun_text listing (signalled_in number at (suc j))
+lines_add listing number at j =
+    sym (flat_map-append (change_text listing) (changes_shown_in j at) (shown_changes (at j).ring (at (suc j)).ring))
+
+-- to the frames of one
+pub frames_add : (ask : FrameWindow) (number : ℕ) (at : ℕ → World) (j : ℕ)
+    → frames_bytes ask (signalled_in number at j).sent ++ frames_bytes ask (sent_last (at (suc j)) ∷ [])
+    ≡ frames_bytes ask (signalled_in number at (suc j)).sent
+frames_add ask number at j =
+    let bytes = λ (frames : List (List ℕ)). flat_map (λ (frame : List ℕ). frame) frames in
+    sym (ap bytes (flat_map-append (frame_of ask) (frames_sent_in j at) (sent_last (at (suc j)) ∷ []))
+    ∙ flat_map-append (λ (frame : List ℕ). frame) (frames_of ask (frames_sent_in j at)) (frames_of ask (sent_last (at (suc j)) ∷ [])))
 
 -- ---- room stays
 

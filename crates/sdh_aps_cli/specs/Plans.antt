@@ -13,6 +13,7 @@ use Rattle.sdh_status.specs.declared.Status.TheVariants as status
 use Rattle.sdh_promise.specs.Scenes.{scenes}
 use Rattle.sdh_promise.specs.Plans.{ring_of}
 use Rattle.sdh_shell.specs.Calls.{HasRun}
+use Rattle.sdh_shell.specs.Writing.{Parts, joined}
 use Rattle.sdh_programs.specs.Programs.{IsRunEnd, Closing}
 use Rattle.sdh_scripts.specs.Plans.{Account, ReportsOwe}
 use Rattle.sdh_scripts.specs.Plans as plans
@@ -111,15 +112,21 @@ pub record CutOwes (plan : Planned) (ended begun : List Signalled) : Type 0 wher
   pub shown : AreSignalled (ring_of plan) plan.nodes plan.limit [] 0 (scenes [] gone) ended status.Ok
   pub next : All (AreFirstRounds plan ended status.WriteFault) begun
 
--- a write failed while the plan ran, and no round ran after it: these pieces were to be written
-pub record IsCutRun (plan : Planned) (f : Fibres) (pieces : List Piece) (left : Fibres) : Type 0 where
+-- A write failed while the plan ran, and no round ran after it. This had been reported, and was written: `done` of the
+-- settle steps before, and `shown` of the rounds of the next one. With the round that ran last, or at the end of its step,
+-- this was to be reported: `ended` of the settle steps that ended, and `begun` of one that hadn't. So the first part of
+-- the text is that of all rounds before the last one, and the last part what that round adds, or the step's end.
+pub record IsCutRun (listing : PlanListing) (plan : Planned) (f : Fibres) (text : Parts) (left : Fibres) : Type 0 where
+  pub done : List Signalled
+  pub shown : List Signalled
   pub ended : List Signalled
   pub begun : List Signalled
   pub last : World
   pub last_is : last.fibres ≡ left
-  pub cut : CutTold signalling_walk plan.limit plan.steps (world_of plan f) ended begun last
+  pub cut : CutTold signalling_walk plan.limit plan.steps (world_of plan f) done shown ended begun last
   pub owed : f.honest ≡ true → CutOwes plan ended begun
-  pub pieces_are : pieces ≡ pieces_of ended begun
+  pub first_is : text.first ≡ pieces_text listing (pieces_of done shown)
+  pub text_is : joined text ≡ pieces_text listing (pieces_of ended begun)
 
 -- ---- how it ends
 

@@ -1,14 +1,14 @@
 -- What is recorded of the rounds of a settle step.
-use Rattle.std.specs.Prelude.{ℕ, ◌≡◌, ◌*◌, ◌≤◌, Bool, true, List, length, Option, Some, slice_get}
+use Rattle.std.specs.Prelude.{ℕ, suc, ◌≡◌, ◌*◌, ◌≤◌, Bool, true, List, length, Option, Some, slice_get}
 use Rattle.std.specs.Io.KnownBytes.{Appends}
 use Rattle.sdh_basics.specs.Causes.{Rose, one_more}
-use Rattle.sdh_outside.specs.Writing.{AppendsFewer}
 use Rattle.sdh_node.specs.Rings.Held.{HeldRing}
 use Rattle.sdh_node.specs.Rings.Rounds.{World}
 use Rattle.sdh_report.specs.Written.{Written}
 use Rattle.sdh_report.specs.Written.{room_in}
+use Rattle.sdh_scripts.specs.Tellers.{CutIn}
 use Rattle.sdh_aps.specs.declared.shown.Shown.{Shown}
-use Rattle.sdh_aps_cli.specs.Signalled.{shown_at, changes_shown_in}
+use Rattle.sdh_aps_cli.specs.Signalled.{shown_at, shown_changes, changes_shown_in}
 use Rattle.sdh_aps_cli.specs.Listing.{changes_text}
 use Rattle.sdh_aps_cli.specs.declared.listing.SignalListing.{SignalListing}
 
@@ -32,10 +32,12 @@ pub record IsRecorded (listing : SignalListing) (at : ℕ → World) (k : ℕ) (
   pub shown : AreShown (shown_at (at k).ring) items
   pub written : Appends old new (changes_text listing (changes_shown_in k at))
 
--- a write failed in the k-th round of a settle step: only the first bytes of the lines of its first k rounds were
--- written
+-- a write failed in the k-th round of a settle step: the lines of the rounds before it were written, and of its own only
+-- the first bytes
 abbrev pub IsCut : SignalListing → (ℕ → World) → ℕ → Option (List ℕ) → Option (List ℕ) → Type 0
-IsCut listing at k old new = AppendsFewer old new (changes_text listing (changes_shown_in k at))
+IsCut listing at k old new =
+    (j : ℕ) × (k ≡ suc j)
+    × CutIn old new (changes_text listing (changes_shown_in j at)) (changes_text listing (shown_changes (at j).ring (at (suc j)).ring))
 
 -- ---- writes that failed, by a count of faults, which is exact where `exact` holds
 

@@ -4,8 +4,8 @@ ghost use Rattle.sdh_plant.specs.Fibres.{HasNoFibres};
 ghost use Rattle.sdh_shell.specs.Calls.{words_of};
 ghost use Rattle.sdh_shell.specs.Failing.{Counts};
 ghost use Rattle.sdh_shell.specs.Writing.{TellsWith};
-ghost use Rattle.sdh_programs.specs.Outcome.{MayEnd, told};
-ghost use Rattle.sdh_programs.specs.Calls.{IsCutShort};
+ghost use Rattle.sdh_programs.specs.Outcome.{MayEndIn, told};
+ghost use Rattle.sdh_programs.specs.Calls.{AsItComes, IsCutShort};
 ghost use Rattle.sdh_aps_cli.specs.Endings.{signalling_endings};
 ghost use Rattle.sdh_aps_cli.specs.Words.{asked};
 ghost use Rattle.sdh_aps_cli.specs.Plans.{IsCutRun};
@@ -41,20 +41,21 @@ pub fn sdhaps<R: Source, W: Sink, P: LendingPlant>(
     requires fresh { HasNoFibres (P.fibres plant.old) }
 
     // The ending and the text that is written, where the bytes of a source that is read are known, and where the sink
-    // shows what was written. Where a write failed while a plan was run, only the first bytes of what was to be
-    // reported of it were written.
+    // shows what was written. Where a write failed while a plan was run, all that was to be written of the rounds before
+    // the last one was written, and only a beginning of what that round adds, or its step's end. No round ran after it,
+    // and the fibres are as it left them. Where a write failed in the last line, all that was to be reported was written.
     ensures outcome { let ask = asked (words_of words.now) in
         let reads : Counts = record { before = R.faults source.old; after = R.faults source.new } in
         let calls : Counts = record { before = P.faults plant.old; after = P.faults plant.new } in
         IfSome (told signalling ask (R.left source.old)) (λ bytes. TellsWith signalling_endings
-        (λ how text. MayEnd signalling ask bytes (P.fibres plant.old) reads calls how text (P.fibres plant.new))
-        (IsCutShort signalling IsCutRun ask bytes (P.fibres plant.old) (W.written sink.old) (W.written sink.new) (P.fibres plant.new))
+        (λ how text. MayEndIn signalling ask bytes (P.fibres plant.old) reads calls how text (P.fibres plant.new))
+        (IsCutShort signalling (AsItComes IsCutRun) ask bytes (P.fibres plant.old) (W.written sink.old) (W.written sink.new) (P.fibres plant.new))
         result (W.written sink.old) (W.written sink.new)) }
 
     // What the call keeps, over every source, sink and plant (`KeepsAll` in `sdh_shell/specs/Kept`): each fault has its
     // cause, what isn't asked for stays as it was, and where all that a run needs is given, and no call fails, all is
     // done.
-    ensures kept { KeepsCall signalling IsCutRun (asked (words_of words.now))
+    ensures kept { KeepsCall signalling (AsItComes IsCutRun) (asked (words_of words.now))
         (seen_around R.faults R.exact R.left source.old source.new)
         (seen_around W.faults W.exact W.written sink.old sink.new) (seen_around P.faults P.exact P.fibres plant.old plant.new) result }
 {

@@ -9,7 +9,7 @@ ghost use Rattle.sdh_cli.specs.Words.{asked};
 ghost use Rattle.sdh_cli.specs.Outcome.{told, MayEnd};
 ghost use Rattle.sdh_cli.specs.Headline.{IsAsPromised, EndsAsItRuns, AlwaysSettles};
 ghost use Rattle.sdh_shell.specs.Kept.{seen_around};
-ghost use Rattle.sdh_programs.specs.Calls.{KeepsCall, never_cut};
+ghost use Rattle.sdh_programs.specs.Calls.{AtOnce, KeepsCall};
 ghost use Rattle.sdh_cli.specs.Outcome.{ringing};
 
 use crate::words::Command;
@@ -64,7 +64,7 @@ pub fn sdhring<R: Source, W: Sink, P: Plant>(
     // What the call keeps, over every source, sink and plant (`KeepsAll` in `sdh_shell/specs/Kept`): each fault has its
     // cause, what isn't asked for stays as it was, and where all that a run needs is given, and no call fails, all is
     // done.
-    ensures kept { KeepsCall ringing never_cut (asked (words_of words.now))
+    ensures kept { KeepsCall ringing AtOnce (asked (words_of words.now))
         (seen_around R.faults R.exact R.left source.old source.new)
         (seen_around W.faults W.exact W.written sink.old sink.new) (seen_around P.faults P.exact P.fibres plant.old plant.new) result }
 {

@@ -14,3 +14,5 @@ pub mod Turning
 pub mod Faults
 pub mod Told
 pub mod Unique
+mod Complete
+pub mod Kept

@@ -1,10 +1,9 @@
 -- How many bytes a record has at least.
-use Rattle.std.proofs.Common.{◌≡◌, ℕ, zero, suc, ◌+◌, ◌≤◌, ◌⊎◌, inl, inr, List, [], ◌∷◌, ◌++◌, length, get_or, codes, refl, ap, ◌==◌, sym, subst, ◌∙◌, arith}
+use Rattle.std.proofs.Common.{◌≡◌, ℕ, ◌+◌, ◌≤◌, ◌⊎◌, inl, inr, List, [], ◌∷◌, ◌++◌, length, drop, get_or, codes, refl, ap, ◌==◌, sym, subst, ◌∙◌, arith}
 use Rattle.std.proofs.Common.{Bool, true, false, cond, ◌||◌}
 use Rattle.std.specs.Prelude.{Option, Some, None, Result, Ok, Err, if◌then◌else◌}
 use Rattle.std.specs.List.{list_any, join_with_byte}
 use Rattle.std.specs.Str.{bytes_eq}
-use Rattle.std.proofs.lemmas.Bool.{eqb-true}
 use Rattle.std.proofs.lemmas.Slice.Eq.{bytes_eq-Decides}
 use Rattle.std.proofs.lemmas.List.{length-append, get_or_append_left}
 use Rattle.std.proofs.lemmas.List.Splits.{join_with_byte-slice_split}
@@ -12,7 +11,7 @@ use Rattle.sdh_ringmap.specs.declared.Pos.{Pos}
 use Rattle.sdh_circuits.specs.Provisioned.{Provisioned}
 use Rattle.sdh_request.specs.declared.Command.TheVariants as command
 use Rattle.sdh_node_cli.specs.Lines.{whole_line}
-use Rattle.sdh_plan.specs.Words.{words, is_empty}
+use Rattle.sdh_plan.specs.Words.{words, is_empty, numeral_in}
 use Rattle.sdh_plan.specs.declared.reason.Reason.{Reason}
 use Rattle.sdh_plan.specs.declared.reason.Reason.TheVariants as reason
 use Rattle.sdh_node_cli.specs.declared.record.Came.{Came}
@@ -20,44 +19,16 @@ use Rattle.sdh_node_cli.specs.declared.record.Came.TheVariants as came
 use Rattle.sdh_node_cli.specs.declared.record.Record.{Record}
 use Rattle.sdh_node_cli.specs.declared.record.Record.TheVariants as what
 use Rattle.sdh_node_cli.specs.Records.{came_at, round_by, round_in, command_in, moment_in, hold_in, slip_in, record_by, record_in, record_of}
-use Rattle.sdh_node_cli.specs.Streams.{fewest, west_of, east_of, most_ahead}
+use Rattle.sdh_node_cli.specs.declared.record.Told.TheVariants as told
+use Rattle.sdh_node_cli.specs.Streams.{west_of, east_of, most_ahead, BeginsRecord, EachHas, MayRead}
 use Rattle.sdh_node_cli.specs.Laws.{RecordsAreLong}
 
 -- ---- the fewest bytes
 
-pub fewest_most : (front : List ℕ) → fewest front ≤ 18
-unfolding fewest
-fewest_most front = by (get_or front 0 0 == 114) (get_or front 6 0 == 102)
-  where
-    by : (r f : Bool) → cond r (cond f 18 16) 7 ≤ 18
-    by true true = omega arith
-    by true false = omega arith
-    by false f = omega arith
-
--- a byte that isn't 0 stays where more bytes come after it
-stays : (front rest : List ℕ) (i k : ℕ) → get_or front i 0 ≡ suc k → get_or (front ++ rest) i 0 ≡ suc k
-stays [] rest zero k e = cc
-stays [] rest (suc i) k e = cc
-stays (x ∷ front) rest zero k e = e
-stays (x ∷ front) rest (suc i) k e = stays front rest i k e
-
--- where more is known of a line, its record has no fewer bytes
-pub fewest_more : (front rest : List ℕ) → fewest front ≤ fewest (front ++ rest)
-unfolding fewest
-fewest_more front rest =
-    by (get_or front 0 0 == 114) (get_or front 6 0 == 102) (get_or (front ++ rest) 0 0 == 114) (get_or (front ++ rest) 6 0 == 102)
-    (λ e. ap (λ x. x == 114) (stays front rest 0 113 (eqb-true (get_or front 0 0) 114 e)))
-    (λ e. ap (λ x. x == 102) (stays front rest 6 101 (eqb-true (get_or front 6 0) 102 e)))
-  where
-    by : (r f s g : Bool) → (r ≡ true → s ≡ true) → (f ≡ true → g ≡ true) → cond r (cond f 18 16) 7 ≤ cond s (cond g 18 16) 7
-    by false f true true p q = omega arith
-    by false f true false p q = omega arith
-    by false f false g p q = omega arith
-    by true f false g p q = cc (p refl)
-    by true true true false p q = cc (q refl)
-    by true true true true p q = omega arith
-    by true false true true p q = omega arith
-    by true false true false p q = omega arith
+-- The smallest number of bytes of a record with this line, by its first byte and its seventh: of the line with its
+-- newline byte, and of a frame from the west, where one follows, the first byte.
+unfoldable fewest : List ℕ → ℕ
+fewest line = if get_or line 0 0 == 114 then if get_or line 6 0 == 102 then 18 else 16 else 7
 
 -- ---- the words of a record
 
@@ -282,7 +253,7 @@ words_long circuits at line (first ∷ second ∷ more) r is full e = by (first_
         )
 
 -- a record has at least the fewest bytes of its line
-pub line_long : (circuits : List Provisioned) (at : Pos) (line : List ℕ) (r : Record) → record_of circuits at line ≡ Ok r
+line_long : (circuits : List Provisioned) (at : Pos) (line : List ℕ) (r : Record) → record_of circuits at line ≡ Ok r
     → fewest line ≤ length (whole_line line) + most_ahead (west_of r)
 unfolding record_of
 line_long circuits at line r e = by (list_any is_empty (words line)) refl e
@@ -292,5 +263,69 @@ line_long circuits at line r e = by (list_any is_empty (words line)) refl e
     by true full h = absurd (no_form reason.StepForm r h)
     by false full h = words_long circuits at line (words line) r refl full h
 
+-- ---- the bytes of each record that begins so
+
+-- each record has at least 7 bytes
+seven : (circuits : List Provisioned) (at : Pos) → EachHas circuits at [] 7
+unfolding fewest
+seven circuits at line r e =
+    omega (arith, line_long circuits at line r e, by (get_or line 0 0 == 114) (get_or line 6 0 == 102))
+  where
+    by : (r f : Bool) → 7 ≤ cond r (cond f 18 16) 7
+    by true true = omega arith
+    by true false = omega arith
+    by false f = omega arith
+
+-- one that begins with `r` has at least 16
+sixteen : (circuits : List Provisioned) (at : Pos) → EachHas circuits at (codes "r") 16
+unfolding fewest
+sixteen circuits at rest r e =
+    omega (arith, line_long circuits at (codes "r" ++ rest) r e, by (get_or (codes "r" ++ rest) 6 0 == 102))
+  where
+    by : (f : Bool) → 16 ≤ cond f 18 16
+    by true = omega arith
+    by false = omega arith
+
+-- one that begins with `round f` has at least 18
+eighteen : (circuits : List Provisioned) (at : Pos) → EachHas circuits at (codes "round f") 18
+unfolding fewest
+eighteen circuits at rest r e = line_long circuits at (codes "round f" ++ rest) r e
+
 pub records_are_long : RecordsAreLong
-records_are_long circuits at front rest r e = omega (arith, fewest_more front rest, line_long circuits at (front ++ rest) r e)
+records_are_long circuits at = (seven circuits at, sixteen circuits at, eighteen circuits at)
+
+-- ---- how many bytes may be read once a part of a line has come
+
+begins_any : (circuits : List Provisioned) (at : Pos) → BeginsRecord circuits at []
+unfolding record_of record_in numeral_in
+begins_any circuits at = (codes "hold 1", what.Told (told.Hold 1), refl)
+
+begins_round : (circuits : List Provisioned) (at : Pos) → BeginsRecord circuits at (codes "r")
+unfolding record_of record_in
+begins_round circuits at = (codes "ound none none", what.Round came.Nothing came.Nothing, refl)
+
+begins_frame : (circuits : List Provisioned) (at : Pos) → BeginsRecord circuits at (codes "round f")
+unfolding record_of record_in
+begins_frame circuits at = (codes "rame none", what.Round came.Frame came.Nothing, refl)
+
+module _ (line : List ℕ) (circuits : List Provisioned) (at : Pos) where
+  pub may_any : MayRead circuits at line 7
+  may_any = record { front = []; rest = line; line_is = refl; begins = begins_any circuits at; each = seven circuits at }
+
+  pub may_round : line ≡ codes "r" ++ drop 1 line → MayRead circuits at line 16
+  may_round is = record {
+    front = codes "r";
+    rest = drop 1 line;
+    line_is = is;
+    begins = begins_round circuits at;
+    each = sixteen circuits at;
+  }
+
+  pub may_frame : line ≡ codes "round f" ++ drop 7 line → MayRead circuits at line 18
+  may_frame is = record {
+    front = codes "round f";
+    rest = drop 7 line;
+    line_is = is;
+    begins = begins_frame circuits at;
+    each = eighteen circuits at;
+  }

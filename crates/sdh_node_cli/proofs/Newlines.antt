@@ -9,11 +9,12 @@ use Rattle.std.proofs.lemmas.List.{length-append, length-take, get_or-take, take
 use Rattle.std.proofs.lemmas.List.Elements.{All-nil, All-cons, All-from_get_or}
 use Rattle.std.proofs.lemmas.List.Quantifiers.{position-Some}
 use Rattle.std.proofs.Math.Seq.{drop-cons}
+use Rattle.sdh_ringmap.specs.declared.Pos.{Pos}
+use Rattle.sdh_circuits.specs.Provisioned.{Provisioned}
 use Rattle.sdh_node_cli.specs.Lines.{IsOneLine, whole_line}
 use Rattle.sdh_node_cli.specs.declared.line.Got.TheVariants as got
-use Rattle.sdh_node_cli.specs.Streams.{fewest, IsBehind}
+use Rattle.sdh_node_cli.specs.Streams.{MayRead, IsBehind}
 use Rattle.sdh_node_cli.specs.Turns.{TakesMore}
-use Rattle.sdh_node_cli.proofs.Long.{fewest_more}
 
 abbrev is_newline : ℕ → Bool
 is_newline byte = byte == 10
@@ -59,20 +60,28 @@ front_cut xs i e =
 
 -- At most `count` bytes were asked for once the first part of a line had come, so few bytes come after the line.
 pub few_behind : (before part more : List ℕ) (count : ℕ) → length (whole_line part ++ more) ≤ count
-    → (count + length before ≤ fewest before) ⊎ (count ≡ 1) → IsBehind (before ++ part) more
-few_behind before part more count all (inl few) =
-    omega (
-      arith,
-      few,
-      all,
-      fewest_more before part,
-      length-append (whole_line part) more,
-      length-append part (10 ∷ []),
-      length-append (before ++ part) (10 ∷ []),
-      length-append before part,
-    )
-few_behind before part more count all (inr one) =
-    omega (arith, one, all, length-append (whole_line part) more, length-append part (10 ∷ []))
+    → ((circuits : List Provisioned) (at : Pos) → MayRead circuits at before (count + length before)) ⊎ (count ≡ 1)
+    → (circuits : List Provisioned) (at : Pos) → IsBehind circuits at (before ++ part) more
+few_behind before part more count all (inl may) circuits at =
+    let m = may circuits at in
+    let size = length-append (whole_line (before ++ part)) more in
+    let ended = length-append (before ++ part) (10 ∷ []) in
+    let both = length-append before part in
+    let part_ended = length-append part (10 ∷ []) in
+    let part_size = length-append (whole_line part) more in
+    inr (record {
+      front = m.front;
+      rest = m.rest ++ part;
+      line_is = ap (λ l. l ++ part) m.line_is ∙ append_assoc m.front m.rest part;
+      begins = m.begins;
+      each = λ rest r e. (let has = m.each rest r e in omega (arith, has, all, size, ended, both, part_ended, part_size));
+    })
+few_behind before part more count all (inr one) circuits at =
+    inl (none more (omega (arith, one, all, length-append (whole_line part) more, length-append part (10 ∷ []))))
+  where
+    none : (l : List ℕ) → length l ≤ 0 → l ≡ []
+    none [] low = refl
+    none (x ∷ l) low = absurd (omega (arith, low))
 
 -- ---- what was read into a buffer that has more room
 
@@ -92,7 +101,8 @@ first_behind xs n first e = e ∙ ap (λ l. slice_get l 0) (take_all _ _ (omega 
 pub rest_taken : (count at asked : ℕ) (buf room before new : List ℕ) (first : Option ℕ) (left now : Option (List ℕ))
     → take count (buf ++ room) ≡ whole_line (take at (take count (buf ++ room))) ++ drop (at + 1) (take count (buf ++ room))
     → IsOneLine (take at (take count (buf ++ room))) → new ≡ before ++ take at (take count (buf ++ room)) → Consumes left now (take count buf)
-    → count ≤ length buf → count ≤ asked → (asked + length before ≤ fewest before) ⊎ (asked ≡ 1)
+    → count ≤ length buf → count ≤ asked
+    → ((circuits : List Provisioned) (at : Pos) → MayRead circuits at before (asked + length before)) ⊎ (asked ≡ 1)
     → first ≡ slice_get (take (length (take count (buf ++ room)) - (at + 1)) (drop (at + 1) (take count (buf ++ room)))) 0
     → TakesMore left now before new (got.Rest first)
 rest_taken count at asked buf room before new first left now cut one is read within few lacking first_is =
@@ -106,6 +116,6 @@ rest_taken count at asked buf room before new first left now cut one is read wit
       one,
       subst (Consumes left now) whole read,
       is,
-      subst (λ l. IsBehind l more) (sym is) (few_behind before part more asked all lacking),
+      λ circuits place. subst (λ l. IsBehind circuits place l more) (sym is) (few_behind before part more asked all lacking circuits place),
       first_behind xs (at + 1) first first_is,
     )

@@ -5,8 +5,8 @@ use Rattle.std.specs.Io.KnownBytes.{Appends, Consumes, Keeps}
 use Rattle.std.proofs.KnownBytes.{Appends-trans, Appends-nil, Consumes-trans, Consumes-nil}
 use Rattle.std.proofs.lemmas.List.{length-append}
 use Rattle.std.proofs.lemmas.Grind.{flat_map-append}
-use Rattle.sdh_outside.specs.Writing.{AppendsFewer}
-use Rattle.sdh_outside.proofs.Pieces.{fewer_behind}
+use Rattle.sdh_shell.specs.Writing.{AppendsUpTo}
+use Rattle.sdh_shell.proofs.Writing.{up_to}
 use Rattle.sdh_node_cli.specs.declared.ending.Flaw.TheVariants as flaw
 use Rattle.sdh_node_cli.specs.declared.stop.Stop.{Stop}
 use Rattle.sdh_node_cli.specs.declared.stop.Stop.TheVariants as stop
@@ -116,8 +116,8 @@ cut_by first b left mid now old_text mid_text new_text count w f = record {
   is = subst (λ x. IsGiven x f.given) w.bench f.is;
   read = Consumes-trans left mid now _ _ w.read f.read;
   front =
-      subst (λ x. AppendsFewer old_text new_text (answers first w.records ++ record_answer f.given x)) w.bench
-      (fewer_behind old_text mid_text new_text (answers first w.records) (record_answer f.given b) w.wrote f.front);
+      subst (λ x. AppendsUpTo old_text new_text (record { first = answers first w.records; last = record_answer f.given x })) w.bench
+      (up_to old_text mid_text new_text (answers first w.records) (record_answer f.given b) w.wrote f.front);
 }
 
 -- the most records that may be done were done

@@ -1,16 +1,18 @@
--- What was written, stage by stage.
-use Rattle.std.proofs.Common.{◌≡◌, ◌≢◌, ℕ, List, [], ◌++◌, refl, ap, sym, subst, inl, inr, append-nil}
+-- What a call came to, stage by stage.
+use Rattle.std.proofs.Common.{◌≡◌, ◌≢◌, ℕ, ◌≤◌, Bool, true, List, [], ◌++◌, refl, ap, ◌∙◌, subst, inl, inr, append-nil, arith}
 use Rattle.std.specs.Prelude.{Option, Some, None}
 use Rattle.std.specs.Io.KnownBytes.{Appends, Consumes}
-use Rattle.std.proofs.KnownBytes.{Appends-nil, Appends-trans, Consumes-trans}
+use Rattle.std.proofs.KnownBytes.{Consumes-trans}
 use Rattle.sdh_ringmap.specs.declared.Pos.{Pos}
 use Rattle.sdh_ringmap.specs.Places.{found_at}
 use Rattle.sdh_node.specs.Node.{new_node}
 use Rattle.sdh_plan.specs.Planned.{Planned}
 use Rattle.sdh_status.specs.declared.Status.TheVariants as status
 use Rattle.sdh_report.specs.Lines.{own_line}
-use Rattle.sdh_shell.specs.Writing.{Telling, Whole, Front, Nothing, TellsAs, TellsWith, IsShown, WroteEnding, telling_in}
-use Rattle.sdh_outside.proofs.Pieces.{fewer_behind}
+use Rattle.sdh_shell.specs.Failing.{Counts}
+use Rattle.sdh_shell.specs.Writing.{Parts, alone, IsShown, WroteEnding}
+use Rattle.sdh_shell.proofs.Writing.{wrote_after, wrote_alone}
+use Rattle.sdh_node_cli.specs.Faults.{CountsFault}
 use Rattle.sdh_node_cli.specs.declared.words.Ask.{Ask}
 use Rattle.sdh_node_cli.specs.declared.ending.Ending.{Ending}
 use Rattle.sdh_node_cli.specs.declared.ending.Ending.TheVariants as ending
@@ -20,7 +22,8 @@ use Rattle.sdh_node_cli.specs.Endings.{line_of, bench_endings}
 use Rattle.sdh_node_cli.specs.Bench.{Bench, new_bench}
 use Rattle.sdh_node_cli.specs.Streams.{bytes_of, end_of_plan, stream_of}
 use Rattle.sdh_node_cli.specs.Outcome.{usage, HasHead, Served, CutShort, ending_of, OfBenchPlan, IsOutcome}
-use Rattle.sdh_node_cli.specs.Outcome.{IsCutPlan, MayBeCut, TellsPlanned, Tells}
+use Rattle.sdh_node_cli.specs.Outcome.{IsCutPlan, MayBeCut, Goes}
+use Rattle.sdh_node_cli.proofs.Faults.{behind, none_made}
 
 -- ---- endings
 
@@ -31,31 +34,25 @@ stop_shown (stop.Bad f) number not = refl
 stop_shown stop.ReadFault number not = refl
 stop_shown stop.WriteFault number not = absurd (not refl)
 
--- ---- a text, and its last line
+-- ---- what a part of a call came to
 
--- the text of an outcome was to be written; `line` is its end, which was written last
-pub tells_end : (may : Ending → List ℕ → Type 0) (cut : Type 0) (how end : Ending) (first line : List ℕ) (old mid new : Option (List ℕ))
-    → IsShown bench_endings how → may how (first ++ line) → Appends old mid first → WroteEnding bench_endings how line end mid new
-    → TellsWith bench_endings may cut end old new
-tells_end may cut how end first line old mid new shown is before (inl (same, all)) =
-    subst (λ (h : Ending). TellsWith bench_endings may cut h old new) (sym same)
-    (subst (λ (t : Telling). TellsAs t may cut how old new) (sym shown)
-    (first ++ line, is, Appends-trans old mid new first line before all))
-tells_end may cut how end first line old mid new shown is before (inr (fault, few)) =
-    subst (λ (h : Ending). TellsWith bench_endings may cut h old new) (sym fault)
-    (inl (how, first ++ line, is, fewer_behind old mid new first line before few))
+-- what may be of one thing may be of another
+pub goes_as : (May More : Ending → Parts → Type 0) (Cut Far : Type 0) (exact : Bool) (reads : Counts) (end : Ending) (old new : Option (List ℕ))
+    → ((h : Ending) (text : Parts) → May h text → More h text) → (Cut → Far) → Goes May Cut exact reads end old new
+    → Goes More Far exact reads end old new
+goes_as May More Cut Far exact reads end old new f g (inl x) =
+    inl (record { how = x.how; text = x.text; may = f x.how x.text x.may; wrote = x.wrote; reads_failed = x.reads_failed })
+goes_as May More Cut Far exact reads end old new f g (inr x) =
+    inr (record { end_is = x.end_is; cut = g x.cut; later = x.later; none = x.none })
 
--- the last line is the whole text
-pub tells_line : (may : Ending → List ℕ → Type 0) (cut : Type 0) (how end : Ending) (line : List ℕ) (old new : Option (List ℕ))
-    → IsShown bench_endings how → may how line → WroteEnding bench_endings how line end old new → TellsWith bench_endings may cut end old new
-tells_line may cut how end line old new shown is wrote = tells_end may cut how end [] line old old new shown is (Appends-nil old) wrote
-
-map_as : (t : Telling) (may more : Ending → List ℕ → Type 0) (off far : Type 0) (how : Ending) (old new : Option (List ℕ))
-    → ((h : Ending) (text : List ℕ) → may h text → more h text) → (off → far) → TellsAs t may off how old new → TellsAs t more far how old new
-map_as Whole may more off far how old new f g x = (x.0, f how x.0 x.1, x.2)
-map_as Front may more off far how old new f g (inl x) = inl (x.0, x.1, f x.0 x.1 x.2, x.3)
-map_as Front may more off far how old new f g (inr x) = inr (g x)
-map_as Nothing may more off far how old new f g x = x
+-- no read failed before
+pub goes_behind : (May : Ending → Parts → Type 0) (Cut : Type 0) (exact : Bool) (a b c : ℕ) (end : Ending) (old new : Option (List ℕ))
+    → (exact ≡ true → b ≡ a) → a ≤ b → Goes May Cut exact (record { before = b; after = c }) end old new
+    → Goes May Cut exact (record { before = a; after = c }) end old new
+goes_behind May Cut exact a b c end old new same later (inl x) =
+    inl (record { how = x.how; text = x.text; may = x.may; wrote = x.wrote; reads_failed = behind exact a b c _ same later x.reads_failed })
+goes_behind May Cut exact a b c end old new same later (inr x) =
+    inr (record { end_is = x.end_is; cut = x.cut; later = omega (arith, later, x.later); none = λ e. x.none e ∙ same e })
 
 -- ---- with a plan
 
@@ -82,7 +79,7 @@ module _ (ask : Ask) (plan : Planned) (head : List ℕ) (left mid now : Option (
     front = s.front;
   }
 
-  plan_behind : (how : Ending) (text : List ℕ) → OfBenchPlan ask plan [] mid now how text → OfBenchPlan ask plan head left now how text
+  plan_behind : (how : Ending) (text : Parts) → OfBenchPlan ask plan [] mid now how text → OfBenchPlan ask plan head left now how text
   plan_behind how text (inl x) =
       inl (record {
         none = x.none;
@@ -97,36 +94,51 @@ module _ (ask : Ask) (plan : Planned) (head : List ℕ) (left mid now : Option (
         number = x.number;
         why = x.why;
         how_is = x.how_is;
-        told = x.told;
-        served = served_behind _ x.number x.why x.told x.served;
-        text_is = x.text_is;
+        served = served_behind _ x.number x.why text.first x.served;
+        last_is = x.last_is;
       })
 
-  pub planned_behind : (how : Ending) (old new : Option (List ℕ)) → TellsPlanned ask plan [] mid now how old new
-      → TellsPlanned ask plan head left now how old new
-  planned_behind how old new x =
-      map_as (telling_in bench_endings how) (λ h text. OfBenchPlan ask plan [] mid now h text) (λ h text. OfBenchPlan ask plan head left now h text)
-      (IsCutPlan ask plan [] mid now old new) (IsCutPlan ask plan head left now old new) how old new plan_behind
+  pub planned_behind : (exact : Bool) (reads : Counts) (end : Ending) (old new : Option (List ℕ))
+      → Goes (OfBenchPlan ask plan [] mid now) (IsCutPlan ask plan [] mid now old new) exact reads end old new
+      → Goes (OfBenchPlan ask plan head left now) (IsCutPlan ask plan head left now old new) exact reads end old new
+  planned_behind exact reads end old new x =
+      goes_as (OfBenchPlan ask plan [] mid now) (OfBenchPlan ask plan head left now) (IsCutPlan ask plan [] mid now old new)
+      (IsCutPlan ask plan head left now old new) exact reads end old new plan_behind
       (λ y. record { at = y.at; found = y.found; cut = cut_behind _ old new y.cut }) x
 
 -- ---- with the bytes of a source
 
-pub tells_planned : (ask : Ask) (plan : Planned) (left mid now : Option (List ℕ)) (how : Ending) (old new : Option (List ℕ))
-    → HasHead left mid plan → TellsPlanned ask plan [] mid now how old new → Tells (Some ask) left now how old new
-tells_planned ask plan left mid now how old new head x =
+pub goes_planned : (ask : Ask) (plan : Planned) (left mid now : Option (List ℕ)) (exact : Bool) (reads : Counts) (end : Ending)
+    (old new : Option (List ℕ)) → HasHead left mid plan
+    → Goes (OfBenchPlan ask plan [] mid now) (IsCutPlan ask plan [] mid now old new) exact reads end old new
+    → Goes (IsOutcome (Some ask) left now) (MayBeCut (Some ask) left now old new) exact reads end old new
+goes_planned ask plan left mid now exact reads end old new head x =
     let bytes = head.document ++ end_of_plan in
-    map_as (telling_in bench_endings how) (λ h text. OfBenchPlan ask plan bytes left now h text) (λ h text. IsOutcome (Some ask) left now h text)
-    (IsCutPlan ask plan bytes left now old new) (MayBeCut (Some ask) left now old new) how old new
+    goes_as (OfBenchPlan ask plan bytes left now) (IsOutcome (Some ask) left now) (IsCutPlan ask plan bytes left now old new)
+    (MayBeCut (Some ask) left now old new) exact reads end old new
     (λ h text y. inr (record { document = head.document; first = head.first; plan = plan; plan_is = head.plan_is; of_plan = y }))
     (λ y. record { document = head.document; first = head.first; plan = plan; plan_is = head.plan_is; cut = y })
-    (planned_behind ask plan bytes left mid now head.read how old new x)
+    (planned_behind ask plan bytes left mid now head.read exact reads end old new x)
 
 -- the words have none of the two forms
-pub tells_usage : (left : Option (List ℕ)) (end : Ending) (old new : Option (List ℕ))
-    → WroteEnding bench_endings (ending.Shared status.Usage) (own_line usage) end old new → Tells None left left end old new
-tells_usage left end old new wrote =
-    tells_line (λ h text. IsOutcome None left left h text) (MayBeCut None left left old new) (ending.Shared status.Usage) end (own_line usage)
-    old new refl (refl, refl, refl) wrote
+pub goes_usage : (left : Option (List ℕ)) (exact : Bool) (faults : ℕ) (end : Ending) (old new : Option (List ℕ))
+    → WroteEnding bench_endings (ending.Shared status.Usage) (own_line usage) end old new
+    → Goes (IsOutcome None left left) (MayBeCut None left left old new) exact (record { before = faults; after = faults }) end old new
+goes_usage left exact faults end old new wrote =
+    inl (record {
+      how = ending.Shared status.Usage;
+      text = alone (own_line usage);
+      may = (refl, refl, refl);
+      wrote = wrote_alone bench_endings (ending.Shared status.Usage) end (own_line usage) old new wrote;
+      reads_failed = none_made exact faults _ (λ e. cc);
+    })
+
+-- a line alone was to be written
+pub goes_line : (May : Ending → Parts → Type 0) (Cut : Type 0) (exact : Bool) (reads : Counts) (how end : Ending) (line : List ℕ)
+    (old new : Option (List ℕ)) → May how (alone line) → WroteEnding bench_endings how line end old new
+    → CountsFault exact reads.before reads.after (how ≡ ending.Shared status.ReadFault) → Goes May Cut exact reads end old new
+goes_line May Cut exact reads how end line old new may wrote failed =
+    inl (record { how = how; text = alone line; may = may; wrote = wrote_alone bench_endings how end line old new wrote; reads_failed = failed })
 
 -- an ending and its line may be replaced by equal ones
 pub wrote_line : (said how end : Ending) (bytes line : List ℕ) (old new : Option (List ℕ)) → said ≡ how → bytes ≡ line
@@ -137,7 +149,7 @@ wrote_line said how end bytes line old new same is wrote =
 -- the node was found, and records were done for it
 pub of_served : (ask : Ask) (plan : Planned) (at : Pos) (b : Bench) (left now : Option (List ℕ)) (number : ℕ) (why : Stop) (told : List ℕ)
     → found_at plan.nodes ask.id ≡ Some at → b ≡ new_bench ask.mode ask.id at plan → Served b [] left now number why told
-    → OfBenchPlan ask plan [] left now (ending_of why number) (told ++ line_of (ending_of why number))
+    → OfBenchPlan ask plan [] left now (ending_of why number) (record { first = told; last = line_of (ending_of why number) })
 of_served ask plan at b left now number why told found is served =
     inr (record {
       at = at;
@@ -145,17 +157,29 @@ of_served ask plan at b left now number why told found is served =
       number = number;
       why = why;
       how_is = refl;
-      told = told;
       served = subst (λ x. Served x [] left now number why told) is served;
-      text_is = refl;
+      last_is = refl;
+    })
+
+-- its answers were written, and then the last line was to be
+pub goes_served : (May : Ending → Parts → Type 0) (Cut : Type 0) (exact : Bool) (reads : Counts) (how end : Ending) (told line : List ℕ)
+    (old mid new : Option (List ℕ)) → May how (record { first = told; last = line }) → Appends old mid told
+    → WroteEnding bench_endings how line end mid new
+    → CountsFault exact reads.before reads.after (how ≡ ending.Shared status.ReadFault) → Goes May Cut exact reads end old new
+goes_served May Cut exact reads how end told line old mid new may before wrote failed =
+    inl (record {
+      how = how;
+      text = record { first = told; last = line };
+      may = may;
+      wrote = wrote_after bench_endings how end told line old mid new before wrote;
+      reads_failed = failed;
     })
 
 -- a write failed while records were done for the node
 pub cut_of : (ask : Ask) (plan : Planned) (at : Pos) (b : Bench) (left now old new : Option (List ℕ)) → found_at plan.nodes ask.id ≡ Some at
-    → b ≡ new_bench ask.mode ask.id at plan → CutShort b [] left now old new
-    → TellsPlanned ask plan [] left now (ending.Shared status.WriteFault) old new
+    → b ≡ new_bench ask.mode ask.id at plan → CutShort b [] left now old new → IsCutPlan ask plan [] left now old new
 cut_of ask plan at b left now old new found is cut =
-    inr (record { at = at; found = found; cut = subst (λ x. CutShort x [] left now old new) is cut })
+    record { at = at; found = found; cut = subst (λ x. CutShort x [] left now old new) is cut }
 
 -- no round has run on a new bench
 pub new_rounds : (ask : Ask) (plan : Planned) (at : Pos) (b : Bench) → b ≡ new_bench ask.mode ask.id at plan → b.node.rounds ≡ 0

@@ -3,7 +3,10 @@ use Rattle.std.proofs.Common.{◌≡◌, ℕ, ◌+◌, ◌≤◌, List, [], ◌�
 use Rattle.std.specs.Prelude.{Option, Some, None, Result, Ok, Err, slice_get}
 use Rattle.std.specs.Io.KnownBytes.{Appends, Consumes}
 use Rattle.std.proofs.KnownBytes.{Appends-nil, Consumes-trans, Keeps-refl}
+use Rattle.std.proofs.lemmas.List.{length-append}
 use Rattle.sdh_outside.specs.Writing.{AppendsFewer}
+use Rattle.sdh_ringmap.specs.declared.Pos.{Pos}
+use Rattle.sdh_circuits.specs.Provisioned.{Provisioned}
 use Rattle.sdh_node_cli.specs.Lines.{whole_line}
 use Rattle.sdh_ringmap.specs.declared.Side.{Side}
 use Rattle.sdh_ringmap.specs.declared.Side.TheVariants.{West, East}
@@ -21,7 +24,6 @@ use Rattle.sdh_node_cli.specs.declared.record.Told.TheVariants as told
 use Rattle.sdh_node_cli.specs.declared.stop.Stop.{Stop}
 use Rattle.sdh_node_cli.specs.declared.stop.Stop.TheVariants as stop
 use Rattle.sdh_node_cli.specs.Records.{record_of}
-use Rattle.sdh_node_cli.proofs.Long.{line_long}
 use Rattle.sdh_node_cli.specs.Bench.{Bench, refusal_of, after_told, after_coming, after_round, answer_to}
 use Rattle.sdh_node_cli.specs.Streams.{GivenRecord, after_record, bench_after, west_of, IsLine, IsBehind, IsRefusedFor, IsRefusedLine, most_ahead}
 use Rattle.sdh_node_cli.specs.Turns.{with_ahead, IsAhead, ReadsLine, HasLine, TakesPart, TakesBoth, both_sizes, Ran, RanCut, StopsRound, RecordGoes, Halts, TurnStopsBy}
@@ -179,7 +181,7 @@ goes_told b new line t first left now text l may is = record {
 -- ---- where no more records are done
 
 -- a line that can't be done
-refused_line : (b : Bench) (line more : List ℕ) (why : Reason) → IsLine line → IsRefusedFor b line why → IsBehind line more
+refused_line : (b : Bench) (line more : List ℕ) (why : Reason) → IsLine line → IsRefusedFor b line why → IsBehind b.circuits b.at line more
     → {tail : List ℕ} → whole_line line ++ more ≡ tail → IsRefusedLine b why tail
 refused_line b line more why is refused few e = record { line = line; more = more; tail_is = sym e; line_is = is; refused = refused; few = few }
 
@@ -209,11 +211,19 @@ ahead_left line [] left now few read = subst (Consumes left now) (append-nil lin
 ahead_left line (x ∷ []) left now few read = put_back line x left now read
 ahead_left line (x ∷ y ∷ more) left now few read = absurd (omega (arith, few))
 
+-- no more was read after a line that is that of a record than of its frames may be
+few_ahead : (circuits : List Provisioned) (at : Pos) (line more : List ℕ) (r : Record) → IsBehind circuits at line more
+    → record_of circuits at line ≡ Ok r → length more ≤ most_ahead (west_of r)
+few_ahead circuits at line more r (inl none) reads = omega (arith, ap length none)
+few_ahead circuits at line more r (inr m) reads =
+    let has = m.each m.rest r (ap (record_of circuits at) (sym m.line_is) ∙ reads) in
+    omega (arith, has, ap length m.line_is, length-append (whole_line line) more, length-append line (10 ∷ []), length-append (m.front ++ m.rest) (10 ∷ []))
+
 -- where a line is that of a record, nothing was read after it but the first byte of the frame from the west
 pub has_line : (b : Bench) (line : List ℕ) (r : Record) (first : Option ℕ) (left now : Option (List ℕ)) → ReadsLine line first left now
     → record_of b.circuits b.at line ≡ Ok r → HasLine b line r first left now
 has_line b line r first left now l reads =
-    let few : length l.more ≤ most_ahead (west_of r) = omega (arith, l.few, line_long b.circuits b.at line r reads) in
+    let few : length l.more ≤ most_ahead (west_of r) = few_ahead b.circuits b.at line l.more r (l.few b.circuits b.at) reads in
     record {
       line_is = l.line_is;
       reads = reads;
@@ -227,7 +237,7 @@ has_line b line r first left now l reads =
 pub no_record : (b : Bench) (line : List ℕ) (why : Reason) (first : Option ℕ) (left now : Option (List ℕ)) → ReadsLine line first left now
     → record_of b.circuits b.at line ≡ Err why → Halts b (stop.Bad (flaw.Said why)) left now
 no_record b line why first left now l reads =
-    (whole_line line ++ l.more, (refused_line b line l.more why l.line_is (inl reads) l.few refl, tt), l.read)
+    (whole_line line ++ l.more, (refused_line b line l.more why l.line_is (inl reads) (l.few b.circuits b.at) refl, tt), l.read)
 
 pub line_stops : (b : Bench) (why : Stop) (left now text : Option (List ℕ)) → Halts b why left now → TurnStopsBy b why left now text text
 line_stops b stop.Done left now text h = (h, Keeps-refl text)
@@ -240,7 +250,7 @@ pub told_stops : (b : Bench) (line : List ℕ) (t : Told) (why : Reason) (first 
 told_stops b line t why first left now text l refused = (
   (
     whole_line line,
-    (refused_line b line [] why l.line_is (inr (what.Told t, l.reads, refused)) (omega arith) (append-nil (whole_line line)), tt),
+    (refused_line b line [] why l.line_is (inr (what.Told t, l.reads, refused)) (inl refl) (append-nil (whole_line line)), tt),
     alone line first left now l.ahead l.read,
   ),
   Keeps-refl text,

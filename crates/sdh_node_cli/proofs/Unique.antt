@@ -38,7 +38,7 @@ never_whole l xs tail one e =
     (ap (λ s. get_or s (length l) 0) (sym e) ∙ get_or-append_seam l 10 xs 0)
 
 -- two fronts of one length
-fronts_same : (a b xs ys : List ℕ) → length a ≡ length b → a ++ xs ≡ b ++ ys → (a ≡ b) × (xs ≡ ys)
+pub fronts_same : (a b xs ys : List ℕ) → length a ≡ length b → a ++ xs ≡ b ++ ys → (a ≡ b) × (xs ≡ ys)
 fronts_same [] [] xs ys n e = (refl, e)
 fronts_same [] (y ∷ b) xs ys n e = absurd (omega arith)
 fronts_same (x ∷ a) [] xs ys n e = absurd (omega arith)
@@ -49,7 +49,7 @@ fronts_same (x ∷ a) (y ∷ b) xs ys n e =
 
 -- ---- one record
 
-opened : (l frames xs : List ℕ) → (whole_line l ++ frames) ++ xs ≡ l ++ 10 ∷ (frames ++ xs)
+pub opened : (l frames xs : List ℕ) → (whole_line l ++ frames) ++ xs ≡ l ++ 10 ∷ (frames ++ xs)
 opened l frames xs = append_assoc (whole_line l) frames xs ∙ append_assoc l (10 ∷ []) (frames ++ xs)
 
 ok_same : (x : Result Record Reason) (r s : Record) → x ≡ Ok r → x ≡ Ok s → r ≡ s
@@ -91,7 +91,7 @@ ok_err : (x : Result Record Reason) (r : Record) (why : Reason) → x ≡ Ok r �
 ok_err x r why p q = cc
 
 -- a part of a record isn't a record and what comes after it
-no_part : (b : Bench) (g : GivenRecord) (x tail : List ℕ) → IsGiven b g → IsCutFrame b tail → bytes_of g ++ x ≡ tail → ⊥
+pub no_part : (b : Bench) (g : GivenRecord) (x tail : List ℕ) → IsGiven b g → IsCutFrame b tail → bytes_of g ++ x ≡ tail → ⊥
 no_part b g x tail p f e =
     let rate = b.node.settings.rate in
     let lines : (g.line ≡ f.line) × ((g.west ++ g.east) ++ x ≡ f.part) =
@@ -110,25 +110,26 @@ no_part b g x tail p f e =
       ap (λ s. size_after rate (east_of s)) r,
     )
 
-no_line : (b : Bench) (g : GivenRecord) (x tail : List ℕ) → IsOneLine tail → bytes_of g ++ x ≡ tail → ⊥
+pub no_line : (b : Bench) (g : GivenRecord) (x tail : List ℕ) → IsOneLine tail → bytes_of g ++ x ≡ tail → ⊥
 no_line b g x tail one e =
     never_whole g.line ((g.west ++ g.east) ++ x) tail one (sym (opened g.line (g.west ++ g.east) x) ∙ e)
 
 -- a record that can't be done isn't a record that can and what comes after it
-no_refused : (b : Bench) (g : GivenRecord) (x tail : List ℕ) (why : Reason) → IsGiven b g → IsRefusedLine b why tail → bytes_of g ++ x ≡ tail → ⊥
-no_refused b g x tail why p n e = by n.refused
+pub no_refusal : (b : Bench) (g : GivenRecord) (x line more : List ℕ) (why : Reason) → IsGiven b g → IsLine line → IsRefusedFor b line why
+    → bytes_of g ++ x ≡ whole_line line ++ more → ⊥
+no_refusal b g x line more why p is refused e = by refused
   where
-    line : List ℕ
-    line = n.line
-
     same : g.line ≡ line
-    same = (lines_same g.line line ((g.west ++ g.east) ++ x) n.more p.said.line_is.one n.line_is.one
-        (sym (opened g.line (g.west ++ g.east) x) ∙ e ∙ n.tail_is ∙ append_assoc line (10 ∷ []) n.more)).0
+    same = (lines_same g.line line ((g.west ++ g.east) ++ x) more p.said.line_is.one is.one
+        (sym (opened g.line (g.west ++ g.east) x) ∙ e ∙ append_assoc line (10 ∷ []) more)).0
 
     by : IsRefusedFor b line why → ⊥
     by (inl err) = ok_err (record_of b.circuits b.at g.line) g.record_is why p.said.reads (ap (record_of b.circuits b.at) same ∙ err)
     by (inr (r, ok, refused)) =
         none_some (refusal b g.record_is) why p.said.may (ap (refusal b) (reads_same b g.line line g.record_is r same p.said.reads ok) ∙ refused)
+
+no_refused : (b : Bench) (g : GivenRecord) (x tail : List ℕ) (why : Reason) → IsGiven b g → IsRefusedLine b why tail → bytes_of g ++ x ≡ tail → ⊥
+no_refused b g x tail why p n e = no_refusal b g x n.line n.more why p n.line_is n.refused (e ∙ n.tail_is)
 
 -- what was read where no more records were done doesn't begin with a record that can be done
 no_stop : (b : Bench) (g : GivenRecord) (x tail : List ℕ) (why : Stop) (now : Option (List ℕ)) → IsGiven b g → StopsSo b why tail now
@@ -159,7 +160,7 @@ no_stop b g x tail stop.WriteFault now p s e = absurd s
 
 -- ---- records, one after the other
 
-given_first : (b : Bench) (g h : GivenRecord) (gs hs : List GivenRecord) (x y : List ℕ) → AreGiven b (g ∷ gs) → AreGiven b (h ∷ hs)
+pub given_first : (b : Bench) (g h : GivenRecord) (gs hs : List GivenRecord) (x y : List ℕ) → AreGiven b (g ∷ gs) → AreGiven b (h ∷ hs)
     → stream_of (g ∷ gs) ++ x ≡ stream_of (h ∷ hs) ++ y → (g ≡ h) × (stream_of gs ++ x ≡ stream_of hs ++ y)
 given_first b g h gs hs x y p q e =
     given_same b g h (stream_of gs ++ x) (stream_of hs ++ y) p.0 q.0
@@ -178,7 +179,7 @@ same_long b (g ∷ gs) (h ∷ hs) x y p q n e =
     (ap (λ z. z ∷ gs) first.0 ∙ ap (λ zs. h ∷ zs) rest.0, rest.1)
 
 -- where no more records were done on one side, there aren't more on the other
-no_more : (b : Bench) (gs hs : List GivenRecord) (x y : List ℕ) (why : Stop) (now : Option (List ℕ)) → AreGiven b gs → AreGiven b hs
+pub no_more : (b : Bench) (gs hs : List GivenRecord) (x y : List ℕ) (why : Stop) (now : Option (List ℕ)) → AreGiven b gs → AreGiven b hs
     → StopsSo (after_records b gs) why x now → stream_of gs ++ x ≡ stream_of hs ++ y → length hs ≤ length gs
 no_more b gs [] x y why now p q s e = omega arith
 no_more b [] (h ∷ hs) x y why now p q s e =

@@ -1,9 +1,11 @@
 -- The bytes of a stream, and what they lead to: a plan, a line that ends it, and then records.
-use Rattle.std.specs.Prelude.{◌≡◌, ◌⊎◌, ℕ, ◌+◌, ◌-◌, ◌<◌, ◌≤◌, ◌==◌, if◌then◌else◌, List, [], ◌∷◌, ◌++◌, length, slice_index, codes}
+use Rattle.std.specs.Prelude.{◌≡◌, ◌⊎◌, ℕ, ◌+◌, ◌<◌, ◌≤◌, List, [], ◌∷◌, ◌++◌, length, codes}
 use Rattle.std.specs.Prelude.{Option, Some, None, Ok, Err}
 use Rattle.std.specs.List.{flat_map}
 use Rattle.std.specs.Io.KnownBytes.{IsAtEnd}
 use Rattle.sdh_node_cli.specs.Lines.{IsOneLine, whole_line}
+use Rattle.sdh_ringmap.specs.declared.Pos.{Pos}
+use Rattle.sdh_circuits.specs.Provisioned.{Provisioned}
 use Rattle.sdh_plan.specs.declared.reason.Reason.{Reason}
 use Rattle.sdh_node_cli.specs.declared.ending.Flaw.{Flaw}
 use Rattle.sdh_node_cli.specs.declared.ending.Flaw.TheVariants as flaw
@@ -122,14 +124,7 @@ stream_of gs = flat_map bytes_of gs
 abbrev pub records_max : ℕ
 records_max = 4294967295
 
--- ---- how many bytes a record has at least
-
--- The smallest number of bytes of a record whose line begins with these bytes: of the line with its newline byte, and
--- of a frame from the west, where one follows, the first byte. Every record has at least 7, as `hold 1` has. A line
--- that begins with `r` is that of a round, which has at least 16, as `round none none`. Where its seventh byte is `f`,
--- the line has at least 17, as `round frame none`, and a frame from the west follows it, whose first byte is the 18th.
-unfoldable pub fewest : List ℕ → ℕ
-fewest front = if slice_index front 0 == 114 then if slice_index front 6 == 102 then 18 else 16 else 7
+-- ---- how many bytes come after a line that can't be done
 
 -- the most bytes of what came from the west that are read with the line: of a frame the first byte
 abbrev pub most_ahead : Came → ℕ
@@ -137,10 +132,28 @@ most_ahead came.Nothing = 0
 most_ahead came.Dark = 0
 most_ahead came.Frame = 1
 
--- `more` was read bench_after the newline byte of a line. It is at most what the line lacks to the smallest number of bytes
--- of a record that begins so.
-abbrev pub IsBehind : List ℕ → List ℕ → Type 0
-IsBehind line more = length more ≤ fewest line - length (whole_line line)
+-- the line of a record begins so
+abbrev pub BeginsRecord : List Provisioned → Pos → List ℕ → Type 0
+BeginsRecord circuits at front = (rest : List ℕ) × (r : Record) × (record_of circuits at (front ++ rest) ≡ Ok r)
+
+-- Each record whose line begins so has at least this number of bytes: of the line with its newline byte, and of a frame
+-- from the west, where one follows, the first byte.
+abbrev pub EachHas : List Provisioned → Pos → List ℕ → ℕ → Type 0
+EachHas circuits at front count =
+    (rest : List ℕ) (r : Record) → record_of circuits at (front ++ rest) ≡ Ok r → count ≤ length (whole_line (front ++ rest)) + most_ahead (west_of r)
+
+-- So many bytes may be read once this part of a line has come: no more than each record has that begins as the line
+-- does, as far as a record begins so.
+pub record MayRead (circuits : List Provisioned) (at : Pos) (line : List ℕ) (count : ℕ) : Type 0 where
+  pub front : List ℕ
+  pub rest : List ℕ
+  pub line_is : line ≡ front ++ rest
+  pub begins : BeginsRecord circuits at front
+  pub each : EachHas circuits at front count
+
+-- `more` was read after the newline byte of a line: nothing, or so few bytes that a record could have had them
+abbrev pub IsBehind : List Provisioned → Pos → List ℕ → List ℕ → Type 0
+IsBehind circuits at line more = (more ≡ []) ⊎ MayRead circuits at line (length (whole_line line ++ more))
 
 -- ---- where the records end
 
@@ -174,7 +187,7 @@ pub record IsRefusedLine (b : Bench) (why : Reason) (tail : List ℕ) : Type 0 w
   pub tail_is : tail ≡ whole_line line ++ more
   pub line_is : IsLine line
   pub refused : IsRefusedFor b line why
-  pub few : IsBehind line more
+  pub few : IsBehind b.circuits b.at line more
 
 -- what was read of a record that can't be done
 abbrev pub IsFlawed : Bench → Flaw → List ℕ → Type 0

@@ -2,6 +2,8 @@
 use Rattle.std.specs.Prelude.{ℕ, ◌≡◌, ◌+◌, ◌<◌, List, [], ◌∷◌, ◌++◌, length, slice_get, Option, Some, None, Ok}
 use Rattle.std.specs.Io.KnownBytes.{Appends, Consumes, IsAtEnd, Keeps, prepend_known}
 use Rattle.sdh_outside.specs.Writing.{AppendsFewer}
+use Rattle.sdh_ringmap.specs.declared.Pos.{Pos}
+use Rattle.sdh_circuits.specs.Provisioned.{Provisioned}
 use Rattle.sdh_node_cli.specs.Lines.{IsOneLine, whole_line}
 use Rattle.sdh_node_cli.specs.declared.line.LineEnd.{LineEnd}
 use Rattle.sdh_node_cli.specs.declared.line.LineEnd.TheVariants as end
@@ -39,14 +41,15 @@ abbrev pub TakesMore : Option (List ℕ) → Option (List ℕ) → List ℕ → 
 TakesMore left now old new got.Part = (bytes : List ℕ) × (0 < length bytes) × IsOneLine bytes × Consumes left now bytes × (new ≡ old ++ bytes)
 TakesMore left now old new (got.Rest first) =
     (bytes : List ℕ) × (more : List ℕ) × IsOneLine bytes × Consumes left now (whole_line bytes ++ more) × (new ≡ old ++ bytes)
-    × IsBehind new more × (first ≡ slice_get more 0)
+    × ((circuits : List Provisioned) (at : Pos) → IsBehind circuits at new more) × (first ≡ slice_get more 0)
 TakesMore left now old new got.End = Consumes left now [] × IsAtEnd now × (new ≡ old)
 
 -- What was taken of the line of a record, and why no more. Either it is whole, and its newline byte was taken too, with
 -- few bytes after it, the first of which is kept; or the source has ended; or there is no room for more of it.
 abbrev pub TakesRecord : Option (List ℕ) → Option (List ℕ) → List ℕ → LineEnd → Type 0
 TakesRecord left now line (end.Whole first) =
-    IsOneLine line × ((more : List ℕ) × Consumes left now (whole_line line ++ more) × IsBehind line more × (first ≡ slice_get more 0))
+    IsOneLine line × ((more : List ℕ) × Consumes left now (whole_line line ++ more)
+    × ((circuits : List Provisioned) (at : Pos) → IsBehind circuits at line more) × (first ≡ slice_get more 0))
 TakesRecord left now line end.Ended = IsOneLine line × Consumes left now line × IsAtEnd now
 TakesRecord left now line end.Full = IsOneLine line × Consumes left now line
 
@@ -55,7 +58,7 @@ pub record ReadsLine (line : List ℕ) (first : Option ℕ) (left now : Option (
   pub line_is : IsLine line
   pub more : List ℕ
   pub read : Consumes left now (whole_line line ++ more)
-  pub few : IsBehind line more
+  pub few : (circuits : List Provisioned) (at : Pos) → IsBehind circuits at line more
   pub first_is : first ≡ slice_get more 0
 
 -- A line was read, and it is that of a record. Besides, only `first` was read: the first byte of a frame from the west,

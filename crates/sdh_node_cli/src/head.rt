@@ -1,5 +1,5 @@
 //! The plan of a stream, up to the line that ends it.
-ghost use Rattle.std.specs.Prelude.{◌≡◌, ◌≤◌, ◌+◌, ◌++◌, ◌↔◌, List, ℕ, [], IsTrue, Ok, Err, IfOk, IfErr, OnErr, length};
+ghost use Rattle.std.specs.Prelude.{◌≡◌, ◌<◌, ◌≤◌, ◌+◌, ◌++◌, ◌↔◌, List, ℕ, [], IsTrue, Ok, Err, IfOk, IfErr, OnErr, length};
 ghost use Rattle.sdh_basics.specs.Causes.{Rose, IsCounted, HasCause};
 ghost use Rattle.sdh_status.specs.declared.Status.{Status};
 ghost use Rattle.sdh_shell.specs.Reading.{TellsPlan};
@@ -56,6 +56,8 @@ fn read_head<R: Source>(source: &mut R, text: &mut Text) -> Result<HeadEnd, Fail
     ensures part { OnErr result (HasNoHead (R.left source.old) (R.left source.new) text.new.bytes) }
     ensures kept { text.new.room + length text.new.bytes ≡ text.old.room }
     ensures full { result ≡ Ok HeadEnd.Full → text.new.room ≡ 0 }
+    ensures ended { result ≡ Ok HeadEnd.Ended → 0 < text.new.room }
+    ensures failed { OnErr result (0 < text.new.room) }
     ensures cause { HasCause R.exact (R.faults source.old) (R.faults source.new) result }
 {
     while text.room() > 0 {

@@ -1,13 +1,15 @@
 //! Reading the line of a record in few calls of the source.
-ghost use Rattle.std.specs.Prelude.{◌≡◌, ◌+◌, ◌<◌, ◌≤◌, ◌⊎◌, ◌++◌, ℕ, [], Option, None, Ok, Err, IfOk, IfErr, IfSome, OnErr, length, slice_index, slice_get, take, drop, position, ◌==◌};
+ghost use Rattle.std.specs.Prelude.{◌≡◌, ◌+◌, ◌<◌, ◌≤◌, ◌⊎◌, ◌++◌, ℕ, List, [], Option, None, Ok, Err, IsTrue, IfOk, IfErr, IfSome, OnErr, length, slice_get, take, drop, position, ◌==◌};
 ghost use Rattle.std.specs.Io.KnownBytes.{Consumes, Keeps};
 ghost use Rattle.sdh_basics.specs.Causes.{HasCause};
+ghost use Rattle.sdh_ringmap.specs.declared.Pos.{Pos};
+ghost use Rattle.sdh_circuits.specs.Provisioned.{Provisioned};
 ghost use Rattle.sdh_report.specs.Written.{with_part};
 ghost use Rattle.sdh_node_cli.specs.Lines.{IsOneLine, whole_line};
 ghost use Rattle.sdh_report.specs.Written.{room_in};
 ghost use Rattle.sdh_node_cli.specs.Faults.{CountsFault};
 ghost use Rattle.sdh_node_cli.specs.Bench.{Bench};
-ghost use Rattle.sdh_node_cli.specs.Streams.{fewest};
+ghost use Rattle.sdh_node_cli.specs.Streams.{MayRead};
 ghost use Rattle.sdh_node_cli.specs.Turns.{TakesMore, TakesRecord, ReadsLine, Halts};
 
 use crate::ending::Flaw;
@@ -40,21 +42,23 @@ enum Got {
     End,
 }
 
-// Returns the byte at a place, or 0 where there is none.
-fn byte_at(bytes: &[u8], at: usize) -> u8
-    ensures { result ≡ slice_index bytes.now at }
+// Returns whether bytes begin with these.
+fn begins_with(bytes: &[u8], word: &[u8]) -> bool
+    ensures { IsTrue result → bytes.now ≡ word.now ++ drop (length word.now) bytes.now }
 {
-    if at < bytes.len() { bytes[at] } else { 0 }
+    bytes.len() >= word.len() && &bytes[..word.len()] == word
 }
 
-// Returns the smallest number of bytes of a record whose line begins with these bytes: of the line with its newline
-// byte, and of a frame from the west, where one follows, the first byte.
-#[tactic(auto, unfolding(crate::specs::Streams::fewest))]
+// Returns how many bytes may be read once these bytes of a line have come: no more than each record has that begins so,
+// of the line with its newline byte, and of a frame from the west, where one follows, the first byte.
 fn fewest(front: &[u8]) -> usize
-    ensures { result ≡ fewest front.now }
+    ensures may { (circuits : List Provisioned) (at : Pos) → MayRead circuits at front.now result }
+    ensures few { result ≤ 18 }
 {
-    if byte_at(front, 0) == b'r' {
-        if byte_at(front, 6) == b'f' { 18 } else { 16 }
+    if begins_with(front, b"round f") {
+        18
+    } else if begins_with(front, b"r") {
+        16
     } else {
         7
     }
@@ -62,11 +66,10 @@ fn fewest(front: &[u8]) -> usize
 
 // Returns the number of bytes to ask for once these bytes of a line have come: the number that every record whose line
 // begins with them still lacks, and at least 1.
-#[tactic(auto, using(crate::proofs::Long::fewest_most))]
 fn asked_for(front: &[u8]) -> usize
     ensures some { 1 ≤ result }
     ensures few { result + length front.now ≤ 18 ⊎ (result ≡ 1) }
-    ensures lacking { (result + length front.now ≤ fewest front.now) ⊎ (result ≡ 1) }
+    ensures lacking { ((circuits : List Provisioned) (at : Pos) → MayRead circuits at front.now (result + length front.now)) ⊎ (result ≡ 1) }
 {
     let fewest = fewest(front);
     if front.len() < fewest {

@@ -1,18 +1,20 @@
 //! The program's call.
-ghost use Rattle.std.specs.Prelude.{◌≡◌, ◌≢◌, ◌⊎◌, ◌≤◌, [], None, Some, Err, IfOk, IfErr, IfSome, OnErr};
-ghost use Rattle.sdh_basics.specs.Causes.{Rose, IsCounted};
+ghost use Rattle.std.specs.Prelude.{◌≡◌, ◌≤◌, [], None, Some, Err, IfOk, IfErr, IfSome, OnErr};
 ghost use Rattle.sdh_ringmap.specs.declared.Pos.{Pos};
 ghost use Rattle.sdh_ringmap.specs.Places.{found_at};
 ghost use Rattle.sdh_plan.specs.Planned.{Planned};
 ghost use Rattle.sdh_report.specs.Lines.{own_line};
 ghost use Rattle.sdh_status.specs.declared.Status.{Status};
 ghost use Rattle.sdh_shell.specs.Calls.{words_of};
-ghost use Rattle.sdh_shell.specs.Writing.{IsShown, WroteEnding};
+ghost use Rattle.sdh_shell.specs.Failing.{Counts};
+ghost use Rattle.sdh_shell.specs.Kept.{seen_around};
+ghost use Rattle.sdh_shell.specs.Writing.{alone, IsShown, WroteEnding};
 ghost use Rattle.sdh_node_cli.specs.Endings.{line_of, bench_endings};
 ghost use Rattle.sdh_node_cli.specs.Words.{asked};
 ghost use Rattle.sdh_node_cli.specs.Faults.{CountsFault};
 ghost use Rattle.sdh_node_cli.specs.Bench.{new_bench};
-ghost use Rattle.sdh_node_cli.specs.Outcome.{usage, ending_of, refusal_of, IsAskedNode, HasNode, IsOutcome, TellsPlanned, Tells};
+ghost use Rattle.sdh_node_cli.specs.Outcome.{usage, ending_of, refusal_of, TakesNoRecord, IsAskedNode, HasNode, OfBenchPlan, IsCutPlan, IsOutcome, MayBeCut};
+ghost use Rattle.sdh_node_cli.specs.Outcome.{Goes, RunsOut, Tells, KeepsBench};
 ghost use Rattle.sdh_node_cli.specs.declared.ending.Ending.{Ending};
 ghost use Rattle.sdh_node_cli.specs.declared.words.Ask.{Ask};
 
@@ -64,15 +66,15 @@ fn answer_records<R: Source, W: Sink>(
     requires fresh { bench.old.node.rounds ≡ 0 }
     requires empty { text.bytes ≡ [] }
     requires room { 96 ≤ text.room }
-    ensures outcome { IfOk result (λ how. (ask : Ask) (plan : Planned) (at : Pos) → found_at plan.nodes ask.id ≡ Some at
+    ensures goes { let reads : Counts = record { before = R.faults source.old; after = R.faults source.new } in
+        IfOk result (λ end. (ask : Ask) (plan : Planned) (at : Pos) → found_at plan.nodes ask.id ≡ Some at
         → bench.old ≡ new_bench ask.mode ask.id at plan
-        → TellsPlanned ask plan [] (R.left source.old) (R.left source.new) how (W.written sink.old) (W.written sink.new)) }
-    ensures reads { IfOk result (λ how. how ≢ Ending.Shared Status.WriteFault
-        → CountsFault R.exact (R.faults source.old) (R.faults source.new) (how ≡ Ending.Shared Status.ReadFault)) }
-    ensures writes { IfOk result (λ how. CountsFault W.exact (W.faults sink.old) (W.faults sink.new) (how ≡ Ending.Shared Status.WriteFault)) }
-    ensures own { IfOk result (λ how. (how ≢ Ending.Shared Status.Usage) × (how ≢ Ending.Shared Status.Memory)) }
+        → Goes (OfBenchPlan ask plan [] (R.left source.old) (R.left source.new))
+        (IsCutPlan ask plan [] (R.left source.old) (R.left source.new) (W.written sink.old) (W.written sink.new)) R.exact reads end
+        (W.written sink.old) (W.written sink.new)) }
+    ensures writes { IfOk result (λ end. CountsFault W.exact (W.faults sink.old) (W.faults sink.new) (end ≡ Ending.Shared Status.WriteFault)) }
     ensures later { (R.faults source.old ≤ R.faults source.new) × (W.faults sink.old ≤ W.faults sink.new) }
-    ensures memory { OnErr result (sink.new ≡ sink.old) }
+    ensures memory { OnErr result ((source.new ≡ source.old) × (sink.new ≡ sink.old)) }
 {
     let mut rooms = Rooms::try_new(alloc, bench.rate())?;
     let stopped = serve(bench, &mut rooms, source, sink);
@@ -100,9 +102,10 @@ fn bench_of(alloc: Global, plan: Plan, ask: Ask) -> Result<Option<Bench>, AllocE
 // is how the program ends, or `None` where memory ran out.
 fn bench_in<R: Source>(alloc: Global, ask: Ask, source: &mut R) -> Result<Bench, Option<Ending>>
     ensures node { IfOk result (HasNode ask (R.left source.old) (R.left source.new)) }
-    ensures ends { IfErr result (λ why. IfSome why (λ how. IsOutcome (Some ask) (R.left source.old) (R.left source.new) how (line_of how))) }
+    ensures ends { IfErr result
+        (λ why. IfSome why (λ how. IsOutcome (Some ask) (R.left source.old) (R.left source.new) how (alone (line_of how)))) }
+    ensures memory { result ≡ Err None → TakesNoRecord (R.left source.old) (R.left source.new) }
     ensures shown { IfErr result (λ why. IfSome why (IsShown bench_endings)) }
-    ensures own { IfErr result (λ why. IfSome why (λ how. how ≢ Ending.Shared Status.Usage)) }
     ensures reads { CountsFault R.exact (R.faults source.old) (R.faults source.new) (result ≡ Err (Some (Ending.Shared Status.ReadFault))) }
 {
     match plan_in(alloc, source) {
@@ -122,14 +125,14 @@ fn answer<R: Source, W: Sink>(
     source: &mut R,
     sink: &mut W,
 ) -> Result<Ending, AllocError>
-    ensures outcome { IfOk result (λ how. Tells (Some ask) (R.left source.old) (R.left source.new) how (W.written sink.old)
-        (W.written sink.new)) }
-    ensures reads { IfOk result (λ how. how ≢ Ending.Shared Status.WriteFault
-        → CountsFault R.exact (R.faults source.old) (R.faults source.new) (how ≡ Ending.Shared Status.ReadFault)) }
-    ensures writes { IfOk result (λ how. CountsFault W.exact (W.faults sink.old) (W.faults sink.new) (how ≡ Ending.Shared Status.WriteFault)) }
-    ensures own { IfOk result (λ how. (how ≢ Ending.Shared Status.Usage) × (how ≢ Ending.Shared Status.Memory)) }
+    ensures goes { let reads : Counts = record { before = R.faults source.old; after = R.faults source.new } in
+        IfOk result (λ end. Goes (IsOutcome (Some ask) (R.left source.old) (R.left source.new))
+        (MayBeCut (Some ask) (R.left source.old) (R.left source.new) (W.written sink.old) (W.written sink.new)) R.exact reads end
+        (W.written sink.old) (W.written sink.new)) }
+    ensures writes { IfOk result (λ end. CountsFault W.exact (W.faults sink.old) (W.faults sink.new) (end ≡ Ending.Shared Status.WriteFault)) }
     ensures later { (R.faults source.old ≤ R.faults source.new) × (W.faults sink.old ≤ W.faults sink.new) }
-    ensures memory { OnErr result (sink.new ≡ sink.old) }
+    ensures memory { let reads : Counts = record { before = R.faults source.old; after = R.faults source.new } in
+        OnErr result (RunsOut R.exact reads (R.left source.old) (R.left source.new) sink.old sink.new) }
 {
     // Room for the last line is taken first, so that a read that fails is always reported.
     let text = Text::try_new(alloc, LINE_MAX)?;
@@ -147,8 +150,8 @@ fn answer<R: Source, W: Sink>(
 // Writes how the program is called. Returns `Usage`, or `WriteFault` where the write fails.
 fn usage<W: Sink>(alloc: Global, sink: &mut W) -> Result<Ending, AllocError>
     ensures wrote { IfOk result
-        (λ how. WroteEnding bench_endings (Ending.Shared Status.Usage) (own_line usage) how (W.written sink.old) (W.written sink.new)) }
-    ensures writes { IfOk result (λ how. CountsFault W.exact (W.faults sink.old) (W.faults sink.new) (how ≡ Ending.Shared Status.WriteFault)) }
+        (λ end. WroteEnding bench_endings (Ending.Shared Status.Usage) (own_line usage) end (W.written sink.old) (W.written sink.new)) }
+    ensures writes { IfOk result (λ end. CountsFault W.exact (W.faults sink.old) (W.faults sink.new) (end ≡ Ending.Shared Status.WriteFault)) }
     ensures later { W.faults sink.old ≤ W.faults sink.new }
     ensures memory { OnErr result (sink.new ≡ sink.old) }
 {
@@ -170,22 +173,17 @@ pub fn sdhnode<R: Source, W: Sink>(
     sink: &mut W,
 ) -> Ending
     // `Tells` relates the ending, what was read and what was written. What was written is the answers that the
-    // definitions give for exactly the records that were read.
-    ensures outcome { Tells (asked (words_of words.now)) (R.left source.old) (R.left source.new) result (W.written sink.old)
-        (W.written sink.new) }
+    // definitions give for exactly the records that were read. Where a write failed, all answers but the last were
+    // written whole, and of that one, or of the last line after all of them, only a front. So each answer is written
+    // whole before a byte more is read.
+    ensures outcome { let reads : Counts = record { before = R.faults source.old; after = R.faults source.new } in
+        Tells (asked (words_of words.now)) reads (R.left source.old) (R.left source.new) result (W.written sink.old) (W.written sink.new) }
 
-    // Over every source and sink.
-    ensures usage { result ≡ Ending.Shared Status.Usage → asked (words_of words.now) ≡ None }
-    ensures usage_only { asked (words_of words.now) ≡ None → (result ≡ Ending.Shared Status.Usage)
-        ⊎ (result ≡ Ending.Shared Status.WriteFault) ⊎ (result ≡ Ending.Shared Status.Memory) }
-    ensures unread { asked (words_of words.now) ≡ None → source.new ≡ source.old }
-    ensures read_fault { result ≡ Ending.Shared Status.ReadFault → Rose (R.faults source.old) (R.faults source.new) }
-    ensures write_fault { result ≡ Ending.Shared Status.WriteFault → Rose (W.faults sink.old) (W.faults sink.new) }
-    ensures writes { IsCounted W.exact (result ≡ Ending.Shared Status.WriteFault) (W.faults sink.old) (W.faults sink.new) }
-    ensures reads { result ≢ Ending.Shared Status.WriteFault → result ≢ Ending.Shared Status.Memory
-        → IsCounted R.exact (result ≡ Ending.Shared Status.ReadFault) (R.faults source.old) (R.faults source.new) }
-    ensures memory { result ≡ Ending.Shared Status.Memory → sink.new ≡ sink.old }
-    ensures later { (R.faults source.old ≤ R.faults source.new) × (W.faults sink.old ≤ W.faults sink.new) }
+    // What the call keeps, over every source and sink (`Keeps` in `sdh_shell/specs/Kept`): each fault has its cause, what
+    // isn't asked for stays as it was, and with a plan that has the node, records that it can do, and no call that fails
+    // all is done. What `outcome` says is said of the ending of which it is said how many reads failed.
+    ensures kept { KeepsBench (asked (words_of words.now))
+        (seen_around R.faults R.exact R.left source.old source.new) (seen_around W.faults W.exact W.written sink.old sink.new) result }
 {
     match asked(words) {
         Some(ask) => match answer(alloc, ask, source, sink) {

@@ -11,7 +11,7 @@ ghost use Rattle.sdh_programs.specs.Headline.{AlwaysSettles};
 ghost use Rattle.sdh_outage_cli.specs.Words.{OutageAsk, asked};
 ghost use Rattle.sdh_outage_cli.specs.Headline.{listening, EndsAsItRuns};
 ghost use Rattle.sdh_shell.specs.Kept.{seen_around};
-ghost use Rattle.sdh_programs.specs.Calls.{KeepsCall, never_cut};
+ghost use Rattle.sdh_programs.specs.Calls.{AtOnce, KeepsCall};
 
 use crate::words::Command;
 use sdh_outside::{Sink, Source};
@@ -54,7 +54,7 @@ pub fn sdhoutage<R: Source, W: Sink, P: Plant>(
     // What the call keeps, over every source, sink and plant (`KeepsAll` in `sdh_shell/specs/Kept`): each fault has its
     // cause, what isn't asked for stays as it was, and where all that a run needs is given, and no call fails, all is
     // done.
-    ensures kept { KeepsCall listening never_cut (asked (words_of words.now))
+    ensures kept { KeepsCall listening AtOnce (asked (words_of words.now))
         (seen_around R.faults R.exact R.left source.old source.new)
         (seen_around W.faults W.exact W.written sink.old sink.new) (seen_around P.faults P.exact P.fibres plant.old plant.new) result }
 {

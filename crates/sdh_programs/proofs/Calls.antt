@@ -1,10 +1,10 @@
 -- A call that writes its reports as they come.
-use Rattle.std.proofs.Common.{◌≡◌, ◌≢◌, ℕ, Bool, true, None, Some, List, [], ◌++◌, refl, ap, sym, ◌∙◌, subst, inl, inr, arith}
+use Rattle.std.proofs.Common.{◌≡◌, ◌≢◌, ℕ, ◌+◌, Bool, true, None, Some, List, [], ◌++◌, refl, ap, sym, ◌∙◌, subst, inl, inr, arith}
 use Rattle.std.specs.Prelude.{◌⊎◌, Option, IfSome, Result, Ok, Err, IsOk}
 use Rattle.std.specs.Io.KnownBytes.{Keeps, IsAtEnd}
 use Rattle.std.proofs.lemmas.Bool.{false≢true}
 use Rattle.sdh_basics.specs.Causes.{IsCounted}
-use Rattle.sdh_outside.specs.Reading.{TakesCount}
+use Rattle.sdh_outside.specs.Reading.{TakesFewer}
 use Rattle.sdh_plant.specs.Fibres.{Fibres}
 use Rattle.sdh_plan.specs.Planned.{Planned}
 use Rattle.sdh_report.specs.Lines.{own_line}
@@ -14,16 +14,17 @@ use Rattle.sdh_shell.specs.Endings.{Endings}
 use Rattle.sdh_shell.specs.Reading.{HasNoPlan, HasPlan, TellsPlan, Refuses, told_if}
 use Rattle.sdh_shell.specs.declared.reading.NoPlan.{NoPlan}
 use Rattle.sdh_shell.specs.declared.reading.NoPlan.TheVariants as noplan
-use Rattle.sdh_shell.specs.Failing.{Counts, HaveFailed, HasCause, cause_of}
-use Rattle.sdh_shell.specs.Writing.{Telling, Whole, Front, Nothing, telling_of, telling_in, telling_if, IsShown, TellsAs, TellsWith, WritesAs, WritesWith, WroteEnding}
+use Rattle.sdh_shell.specs.Failing.{Counts, HaveFailed, HasCause, cause_of, plan_max, TakesAtMost}
+use Rattle.sdh_shell.specs.Writing.{Parts, joined, alone, Whole, Front, Nothing, telling_of, telling_in, telling_if, IsShown, TellsAs, TellsWith, WritesAs, WritesWith, WroteEnding}
 use Rattle.sdh_shell.proofs.Told.{told_all}
-use Rattle.sdh_shell.proofs.Failing.{counted_none, counted_as, came_of_none}
+use Rattle.sdh_shell.proofs.Failing.{counted_none, counted_as, came_of_none, taken_as}
+use Rattle.sdh_shell.proofs.Writing.{wrote_alone}
 use Rattle.sdh_shell.proofs.Endings.{one_status, no_read, no_long, no_usage, is_shown, with_cause}
 use Rattle.sdh_programs.specs.Programs.{Program}
 use Rattle.sdh_shell.specs.Reading.{HasRead}
-use Rattle.sdh_programs.specs.Outcome.{IsOutcome, MayEnd, reads_without, reads_source, told}
+use Rattle.sdh_programs.specs.Outcome.{IsOutcome, MayEnd, MayEndIn, reads_without, reads_source, told}
 use Rattle.sdh_programs.specs.Headline.{MayBeDone}
-use Rattle.sdh_programs.specs.Calls.{CutRun, Finishes, Goes, breaks_own, IsCutShort, Seen, HasToTell, IsAnswer}
+use Rattle.sdh_programs.specs.Calls.{CutRun, Manner, AtOnce, AsItComes, WroteBy, Finishes, Goes, breaks_own, IsCutShort, Seen, HasToTell, IsAnswer}
 use Rattle.sdh_programs.proofs.Stages.{plan_ends, own_outcome, own_may_go, own_read, plan_outcome, refused_outcome, read_may_go, read_has_plan, all_read, asked_done}
 
 -- ---- endings
@@ -52,37 +53,13 @@ module _ {E : Type 0} (endings : Endings E) where
   pub fault_front : telling_in endings (endings.of status.WriteFault) ≡ Front
   fault_front = ap telling_if (endings.shared_of status.WriteFault)
 
--- where no run is cut off, what is written is written at an end
-writes_at_end : {S : Type 0} (telling : Telling) (may : S → List ℕ → Type 0) (cut : Type 0) (how : S) (old new : Option (List ℕ))
-    → (cut → ⊥) → TellsAs telling may cut how old new → WritesAs telling may how old new
-writes_at_end Whole may cut how old new never x = x
-writes_at_end Nothing may cut how old new never x = x
-writes_at_end Front may cut how old new never (inl x) = x
-writes_at_end Front may cut how old new never (inr x) = absurd (never x)
-
-module _ {A L T E : Type 0} (program : Program A L T E) where
-  -- a program whose runs are never cut off is never cut short
-  never_cut : (asked : Option A) (bytes : List ℕ) (f : Fibres) (old new : Option (List ℕ)) (left : Fibres)
-      → IsCutShort program (λ plan g reports h. ⊥) asked bytes f old new left → ⊥
-  never_cut None bytes f old new left x = x
-  never_cut (Some ask) bytes f old new left x = by (program.own_plan ask) x
-    where
-      by : (o : Option Planned) → breaks_own program (λ plan g reports h. ⊥) ask o bytes f old new left → ⊥
-      by None y = y.2.3
-      by (Some plan) y = y.3
-
-  -- what a program wrote whose runs are never cut off is written at an end
-  pub wrote_at_end : (asked : Option A) (source : Option (List ℕ)) (f left : Fibres) (reads calls : Counts) (how : E) (old new : Option (List ℕ))
-      → IfSome (told program asked source) (λ bytes. TellsWith program.endings
-      (λ h text. MayEnd program asked bytes f reads calls h text left)
-      (IsCutShort program (λ plan g reports h. ⊥) asked bytes f old new left) how old new)
-      → IfSome (told program asked source) (λ bytes. WritesWith program.endings
-      (λ h text. MayEnd program asked bytes f reads calls h text left) how old new)
-  wrote_at_end asked source f left reads calls how old new x =
-      told_all (told program asked source) _
-      (λ (bytes : List ℕ). WritesWith program.endings (λ h text. MayEnd program asked bytes f reads calls h text left) how old new)
-      (λ bytes is. writes_at_end (telling_in program.endings how) (λ h text. MayEnd program asked bytes f reads calls h text left)
-      (IsCutShort program (λ plan g reports h. ⊥) asked bytes f old new left) how old new (never_cut asked bytes f old new left) is) x
+-- whatever was to be written, its ending was returned, or a write failed
+pub wrote_end : {L E : Type 0} (manner : Manner L) (endings : Endings E) (how end : E) (text : Parts) (old new : Option (List ℕ))
+    → WroteBy manner endings how text end old new → (end ≡ how) ⊎ (end ≡ endings.of status.WriteFault)
+wrote_end AtOnce endings how end text old new (inl x) = inl x.0
+wrote_end AtOnce endings how end text old new (inr x) = inr x.0
+wrote_end (AsItComes Cut) endings how end text old new (inl x) = inl x.0
+wrote_end (AsItComes Cut) endings how end text old new (inr x) = inr x.0
 
 -- ---- memory ran out
 
@@ -105,100 +82,125 @@ memory_writes program asked source f left reads calls end old new is same =
         subst (λ t. WritesAs t (λ h text. MayEnd program asked bytes f reads calls h text left) end old new)
         (sym (ap (telling_in program.endings) is ∙ ap telling_if (program.endings.shared_of status.Memory))) (keeps_same old new same)
 
-pub memory_tells : {A L T E : Type 0} (program : Program A L T E) (Cut : CutRun T) (asked : Option A) (source : Option (List ℕ))
+pub memory_tells : {A L T E : Type 0} (program : Program A L T E) (manner : Manner L) (asked : Option A) (source : Option (List ℕ))
     (f left : Fibres) (reads calls : Counts) (end : E) (old new : Option (List ℕ)) → end ≡ program.endings.of status.Memory → new ≡ old
     → IfSome (told program asked source) (λ bytes. TellsWith program.endings
-    (λ h text. MayEnd program asked bytes f reads calls h text left) (IsCutShort program Cut asked bytes f old new left) end old new)
-memory_tells program Cut asked source f left reads calls end old new is same =
+    (λ h text. MayEndIn program asked bytes f reads calls h text left) (IsCutShort program manner asked bytes f old new left) end old new)
+memory_tells program manner asked source f left reads calls end old new is same =
     by (told program asked source)
   where
     by : (o : Option (List ℕ)) → IfSome o (λ bytes. TellsWith program.endings
-        (λ h text. MayEnd program asked bytes f reads calls h text left) (IsCutShort program Cut asked bytes f old new left) end old new)
+        (λ h text. MayEndIn program asked bytes f reads calls h text left) (IsCutShort program manner asked bytes f old new left) end old new)
     by None = tt
     by (Some bytes) =
-        subst (λ t. TellsAs t (λ h text. MayEnd program asked bytes f reads calls h text left) (IsCutShort program Cut asked bytes f old new left)
-        end old new) (sym (ap (telling_in program.endings) is ∙ ap telling_if (program.endings.shared_of status.Memory)))
-        (keeps_same old new same)
+        subst (λ t. TellsAs t (λ h text. MayEndIn program asked bytes f reads calls h text left)
+        (IsCutShort program manner asked bytes f old new left) end old new)
+        (sym (ap (telling_in program.endings) is ∙ ap telling_if (program.endings.shared_of status.Memory))) (keeps_same old new same)
 
 -- ---- what an answer says
 
-module _ {A L T E : Type 0} (program : Program A L T E) (Cut : CutRun T) (asked : Option A) (seen : Seen) (end : E)
-    (old new : Option (List ℕ)) where
-  abbrev May : List ℕ → E → List ℕ → Type 0
-  May bytes how text = MayEnd program asked bytes seen.fibres seen.reads seen.calls how text seen.fibres_left
+module _ {A L T E : Type 0} (program : Program A L T E) (asked : Option A) (seen : Seen) (end : E) (old new : Option (List ℕ)) where
+  -- reports that were written as they came
+  module _ (Cut : CutRun L) where
+    abbrev May : List ℕ → E → Parts → Type 0
+    May bytes how text = MayEndIn program asked bytes seen.fibres seen.reads seen.calls how text seen.fibres_left
 
-  abbrev Short : List ℕ → Type 0
-  Short bytes = IsCutShort program Cut asked bytes seen.fibres old new seen.fibres_left
+    abbrev Short : List ℕ → Type 0
+    Short bytes = IsCutShort program (AsItComes Cut) asked bytes seen.fibres old new seen.fibres_left
 
-  pub answer_tells : IsAnswer program Cut asked seen end old new
-      → IfSome (told program asked seen.source) (λ bytes. TellsWith program.endings (May bytes) (Short bytes) end old new)
-  answer_tells (inl x) = elim x.wrote [
-    | inl whole ↦ told_all (told program asked seen.source) _
+    pub answer_tells : IsAnswer program (AsItComes Cut) asked seen end old new
+        → IfSome (told program asked seen.source) (λ bytes. TellsWith program.endings (May bytes) (Short bytes) end old new)
+    answer_tells (inl x) = elim x.wrote [
+      | inl whole ↦ told_all (told program asked seen.source) _
+          (λ (bytes : List ℕ). TellsWith program.endings (May bytes) (Short bytes) end old new)
+          (λ bytes is. subst (λ (h : E). TellsWith program.endings (May bytes) (Short bytes) h old new) (sym whole.0)
+          (subst (λ t. TellsAs t (May bytes) (Short bytes) x.how old new) (sym x.tells.shown) (x.text, (is, x.tells.cause), whole.1)))
+          x.tells.outcome
+      | inr front ↦ told_all (told program asked seen.source) _
+          (λ (bytes : List ℕ). TellsWith program.endings (May bytes) (Short bytes) end old new)
+          (λ bytes is. subst (λ (h : E). TellsWith program.endings (May bytes) (Short bytes) h old new) (sym front.0)
+          (subst (λ t. TellsAs t (May bytes) (Short bytes) (program.endings.of status.WriteFault) old new) (sym (fault_front program.endings))
+          (inl (x.how, x.text, (is, x.tells.cause), front.1))))
+          x.tells.outcome
+    ]
+    answer_tells (inr x) =
+        told_all (told program asked seen.source) _
         (λ (bytes : List ℕ). TellsWith program.endings (May bytes) (Short bytes) end old new)
-        (λ bytes is. subst (λ (h : E). TellsWith program.endings (May bytes) (Short bytes) h old new) (sym whole.0)
-        (subst (λ t. TellsAs t (May bytes) (Short bytes) x.how old new) (sym x.tells.shown) (x.text, (is, x.tells.cause), whole.1)))
-        x.tells.outcome
-    | inr front ↦ told_all (told program asked seen.source) _
-        (λ (bytes : List ℕ). TellsWith program.endings (May bytes) (Short bytes) end old new)
-        (λ bytes is. subst (λ (h : E). TellsWith program.endings (May bytes) (Short bytes) h old new) (sym front.0)
+        (λ bytes is. subst (λ (h : E). TellsWith program.endings (May bytes) (Short bytes) h old new) (sym x.end_is)
         (subst (λ t. TellsAs t (May bytes) (Short bytes) (program.endings.of status.WriteFault) old new) (sym (fault_front program.endings))
-        (inl (x.how, x.text, (is, x.tells.cause), front.1))))
+        (inr is))) x.cut
+
+  -- a text that was written in one go
+  abbrev MayAll : List ℕ → E → List ℕ → Type 0
+  MayAll bytes how all = MayEnd program asked bytes seen.fibres seen.reads seen.calls how all seen.fibres_left
+
+  pub answer_writes : IsAnswer program AtOnce asked seen end old new
+      → IfSome (told program asked seen.source) (λ bytes. WritesWith program.endings (MayAll bytes) end old new)
+  answer_writes (inl x) = elim x.wrote [
+    | inl whole ↦ told_all (told program asked seen.source) _ (λ (bytes : List ℕ). WritesWith program.endings (MayAll bytes) end old new)
+        (λ bytes is. subst (λ (h : E). WritesWith program.endings (MayAll bytes) h old new) (sym whole.0)
+        (subst (λ t. WritesAs t (MayAll bytes) x.how old new) (sym x.tells.shown)
+        (joined x.text, (x.text, refl, (is, x.tells.cause)), whole.1)))
+        x.tells.outcome
+    | inr front ↦ told_all (told program asked seen.source) _ (λ (bytes : List ℕ). WritesWith program.endings (MayAll bytes) end old new)
+        (λ bytes is. subst (λ (h : E). WritesWith program.endings (MayAll bytes) h old new) (sym front.0)
+        (subst (λ t. WritesAs t (MayAll bytes) (program.endings.of status.WriteFault) old new) (sym (fault_front program.endings))
+        (x.how, joined x.text, (x.text, refl, (is, x.tells.cause)), front.1)))
         x.tells.outcome
   ]
-  answer_tells (inr x) =
-      told_all (told program asked seen.source) _
-      (λ (bytes : List ℕ). TellsWith program.endings (May bytes) (Short bytes) end old new)
-      (λ bytes is. subst (λ (h : E). TellsWith program.endings (May bytes) (Short bytes) h old new) (sym x.end_is)
-      (subst (λ t. TellsAs t (May bytes) (Short bytes) (program.endings.of status.WriteFault) old new) (sym (fault_front program.endings))
-      (inr is))) x.cut
+  answer_writes (inr x) =
+      told_all (told program asked seen.source) _ (λ (bytes : List ℕ). WritesWith program.endings (MayAll bytes) end old new)
+      (λ bytes is. absurd is) x.cut
 
+module _ {A L T E : Type 0} (program : Program A L T E) (manner : Manner L) (asked : Option A) (seen : Seen) (end : E)
+    (old new : Option (List ℕ)) where
   -- an ending that isn't a write fault is the one that was to be reported
-  as_told : (s : Status) → (program.endings.of status.WriteFault ≢ program.endings.of s) → IsAnswer program Cut asked seen end old new
-      → end ≡ program.endings.of s → (how : E) × (text : List ℕ) × HasToTell program asked seen how text × (how ≡ program.endings.of s)
-  as_told s never (inl x) e = elim x.wrote [
-    | inl whole ↦ (x.how, x.text, x.tells, sym whole.0 ∙ e)
-    | inr front ↦ absurd (never (sym front.0 ∙ e))
+  as_told : (s : Status) → (program.endings.of status.WriteFault ≢ program.endings.of s) → IsAnswer program manner asked seen end old new
+      → end ≡ program.endings.of s → (how : E) × (text : Parts) × HasToTell program asked seen how text × (how ≡ program.endings.of s)
+  as_told s never (inl x) e = elim (wrote_end manner program.endings x.how end x.text old new x.wrote) [
+    | inl same ↦ (x.how, x.text, x.tells, sym same ∙ e)
+    | inr fault ↦ absurd (never (sym fault ∙ e))
   ]
   as_told s never (inr x) e = absurd (never (sym x.end_is ∙ e))
 
-  pub answer_usage : IsAnswer program Cut asked seen end old new → end ≡ program.endings.of status.Usage → asked ≡ None
+  pub answer_usage : IsAnswer program manner asked seen end old new → end ≡ program.endings.of status.Usage → asked ≡ None
   answer_usage x e = let y = as_told status.Usage (fault_usage program.endings) x e in y.2.usage y.3
 
-  pub answer_unasked : IsAnswer program Cut asked seen end old new → asked ≡ None
+  pub answer_unasked : IsAnswer program manner asked seen end old new → asked ≡ None
       → (end ≡ program.endings.of status.Usage) ⊎ (end ≡ program.endings.of status.WriteFault)
-  answer_unasked (inl x) none = elim x.wrote [
-    | inl whole ↦ inl (whole.0 ∙ x.tells.unasked none)
-    | inr front ↦ inr front.0
+  answer_unasked (inl x) none = elim (wrote_end manner program.endings x.how end x.text old new x.wrote) [
+    | inl same ↦ inl (same ∙ x.tells.unasked none)
+    | inr fault ↦ inr fault
   ]
   answer_unasked (inr x) none = absurd (x.asks none)
 
-  pub answer_read_fault : IsAnswer program Cut asked seen end old new → end ≡ program.endings.of status.ReadFault → HaveFailed seen.reads
+  pub answer_read_fault : IsAnswer program manner asked seen end old new → end ≡ program.endings.of status.ReadFault → HaveFailed seen.reads
   answer_read_fault x e =
       let y = as_told status.ReadFault (fault_read program.endings) x e in
       subst (cause_of seen.reads seen.calls) (ap program.endings.shared y.3 ∙ program.endings.shared_of status.ReadFault) y.2.cause
 
-  pub answer_plant_fault : IsAnswer program Cut asked seen end old new → end ≡ program.endings.of status.PlantFault
+  pub answer_plant_fault : IsAnswer program manner asked seen end old new → end ≡ program.endings.of status.PlantFault
       → HaveFailed seen.calls
   answer_plant_fault x e =
       let y = as_told status.PlantFault (fault_plant program.endings) x e in
       subst (cause_of seen.reads seen.calls) (ap program.endings.shared y.3 ∙ program.endings.shared_of status.PlantFault) y.2.cause
 
-  pub answer_read : IsAnswer program Cut asked seen end old new → end ≡ program.endings.of status.Ok
+  pub answer_read : IsAnswer program manner asked seen end old new → end ≡ program.endings.of status.Ok
       → HasRead (reads_source program asked) seen.source_left
   answer_read x e = let y = as_told status.Ok (fault_ok program.endings) x e in y.2.read y.3
 
   -- with all that is needed, and no fault, everything is done
-  pub answer_complete : IsAnswer program Cut asked seen end old new → (ask : A) → asked ≡ Some ask
+  pub answer_complete : IsAnswer program manner asked seen end old new → (ask : A) → asked ≡ Some ask
       → MayBeDone program ask (told program (Some ask) seen.source) seen.fibres → (HaveFailed seen.reads → ⊥) → (HaveFailed seen.calls → ⊥)
       → (end ≢ program.endings.of status.WriteFault) → end ≡ program.endings.of status.Ok
-  answer_complete (inl x) ask is may reads calls wrote = elim x.wrote [
-    | inl whole ↦ whole.0 ∙ x.tells.complete ask is may reads calls
-    | inr front ↦ absurd (wrote front.0)
+  answer_complete (inl x) ask is may reads calls wrote = elim (wrote_end manner program.endings x.how end x.text old new x.wrote) [
+    | inl same ↦ same ∙ x.tells.complete ask is may reads calls
+    | inr fault ↦ absurd (wrote fault)
   ]
   answer_complete (inr x) ask is may reads calls wrote = absurd (wrote x.end_is)
 
   -- no answer has the ending of a call without memory
-  pub answer_memory : IsAnswer program Cut asked seen end old new → end ≢ program.endings.of status.Memory
+  pub answer_memory : IsAnswer program manner asked seen end old new → end ≢ program.endings.of status.Memory
   answer_memory x e =
       let y = as_told status.Memory (no_fault program.endings status.Memory (λ h. grind arith)) x e in
       nothing_whole (sym (ap telling_if (ap program.endings.shared y.3 ∙ program.endings.shared_of status.Memory)) ∙ y.2.shown)
@@ -211,20 +213,21 @@ module _ {A L T E : Type 0} (program : Program A L T E) (Cut : CutRun T) (asked 
 some_none : {A : Type 0} (a : A) → ◌≡◌ {A = Option A} (Some a) None → ⊥
 some_none a e = grind arith
 
-module _ {A L T E : Type 0} (program : Program A L T E) (Cut : CutRun T) (ask : A) (seen : Seen) (end : E) (old new : Option (List ℕ))
-    (same_reads : seen.reads_exact ≡ true → seen.reads.after ≡ seen.reads.before) where
+module _ {A L T E : Type 0} (program : Program A L T E) (Cut : CutRun L) (ask : A) (seen : Seen) (end : E) (old new : Option (List ℕ))
+    (same_reads : seen.reads_exact ≡ true → seen.reads.after ≡ seen.reads.before)
+    (few : TakesFewer seen.source seen.source_left (plan_max + 1)) where
   -- a write failed while a plan was run
   cut_answer : (plan : Planned) (calls_none : seen.calls_exact ≡ true → seen.calls.after ≡ seen.calls.before)
       → end ≡ program.endings.of status.WriteFault
-      → IfSome (told program (Some ask) seen.source) (λ bytes. IsCutShort program Cut (Some ask) bytes seen.fibres old new seen.fibres_left)
-      → IsAnswer program Cut (Some ask) seen end old new
+      → IfSome (told program (Some ask) seen.source) (λ bytes. IsCutShort program (AsItComes Cut) (Some ask) bytes seen.fibres old new seen.fibres_left)
+      → IsAnswer program (AsItComes Cut) (Some ask) seen end old new
   cut_answer plan calls_none is cut = inr (record {
     end_is = is;
     cut = cut;
     asks = some_none ask;
     came = record {
       source =
-          came_of_none seen.reads_exact seen.reads seen.source seen.source_left same_reads (λ e. fault_read program.endings (sym is ∙ e))
+          came_of_none plan_max seen.reads_exact seen.reads seen.source seen.source_left same_reads few (λ e. fault_read program.endings (sym is ∙ e))
           (λ e. fault_long program.endings (sym is ∙ e));
       plant =
           counted_none seen.calls_exact seen.calls.before seen.calls.after (λ e. fault_plant program.endings (sym is ∙ e)) calls_none;
@@ -237,7 +240,7 @@ module _ {A L T E : Type 0} (program : Program A L T E) (Cut : CutRun T) (ask : 
       → (x.how ≡ program.endings.of status.Ok → HasRead (reads_source program (Some ask)) seen.source_left)
       → ((b : A) → ◌≡◌ {A = Option A} (Some ask) (Some b) → MayBeDone program b (told program (Some b) seen.source) seen.fibres
       → (HaveFailed seen.calls → ⊥) → x.how ≡ program.endings.of status.Ok)
-      → IsAnswer program Cut (Some ask) seen end old new
+      → IsAnswer program (AsItComes Cut) (Some ask) seen end old new
   told_answer plan x outcome read complete =
       let ends = plan_ends program plan seen.fibres seen.fibres_left x.how x.text ask x.outcome in
       inl (record {
@@ -248,7 +251,7 @@ module _ {A L T E : Type 0} (program : Program A L T E) (Cut : CutRun T) (ask : 
           cause = with_cause program.endings x.how seen.reads seen.calls ends x.failed;
           came = record {
             source =
-                came_of_none seen.reads_exact seen.reads seen.source seen.source_left same_reads (no_read program.endings x.how ends)
+                came_of_none plan_max seen.reads_exact seen.reads seen.source seen.source_left same_reads few (no_read program.endings x.how ends)
                 (no_long program.endings x.how ends);
             plant = x.counted;
           };
@@ -264,7 +267,7 @@ module _ {A L T E : Type 0} (program : Program A L T E) (Cut : CutRun T) (ask : 
   -- the plan is the one that what is asked names
   pub own_answer : (plan : Planned) → program.own_plan ask ≡ Some plan
       → Goes program Cut ask plan seen.fibres seen.fibres_left seen.calls_exact seen.calls end old new
-      → IsAnswer program Cut (Some ask) seen end old new
+      → IsAnswer program (AsItComes Cut) (Some ask) seen end old new
   own_answer plan is (inl x) =
       told_answer plan x (own_outcome program ask plan is seen.source seen.fibres seen.fibres_left x.how x.text x.outcome)
       (λ e. own_read program ask plan is seen.source_left)
@@ -279,7 +282,7 @@ module _ {A L T E : Type 0} (program : Program A L T E) (Cut : CutRun T) (ask : 
   module _ (none : program.own_plan ask ≡ None) where
     pub read_answer : (plan : Planned) → IfSome seen.source (λ bytes. TellsPlan bytes plan) → IsAtEnd seen.source_left
         → Goes program Cut ask plan seen.fibres seen.fibres_left seen.calls_exact seen.calls end old new
-        → IsAnswer program Cut (Some ask) seen end old new
+        → IsAnswer program (AsItComes Cut) (Some ask) seen end old new
     read_answer plan tells all (inl x) =
         told_answer plan x (plan_outcome program ask none seen.source plan seen.fibres seen.fibres_left x.how x.text tells x.outcome)
         (λ e. all_read program ask none seen.source_left all)
@@ -312,24 +315,24 @@ refusal_cause reads calls how h failed = absurd h
 other_refusal : (s t : Status) → Refuses s → (Refuses t → ⊥) → s ≡ t → ⊥
 other_refusal s t h never e = never (subst Refuses e h)
 
-module _ {A L T E : Type 0} (program : Program A L T E) (Cut : CutRun T) (seen : Seen) (end : E) (old new : Option (List ℕ))
+module _ {A L T E : Type 0} (program : Program A L T E) (Cut : CutRun L) (seen : Seen) (end : E) (old new : Option (List ℕ))
     (same_fibres : seen.fibres_left ≡ seen.fibres) (same_calls : seen.calls_exact ≡ true → seen.calls.after ≡ seen.calls.before) where
   -- the source has no plan
   pub refused_answer : (ask : A) → program.own_plan ask ≡ None → (s : Status) → Refuses s → IfSome seen.source (λ bytes. HasNoPlan bytes s)
       → (s ≡ status.ReadFault → HaveFailed seen.reads)
       → IsCounted seen.reads_exact (s ≡ status.ReadFault) seen.reads.before seen.reads.after
-      → (s ≡ status.TooLong → TakesCount seen.source seen.source_left 1048577)
+      → TakesAtMost plan_max seen.source seen.source_left (s ≡ status.TooLong)
       → (HasPlan seen.source → (HaveFailed seen.reads → ⊥) → ⊥)
       → WroteEnding program.endings (program.endings.of s) (program.endings.line (program.endings.of s)) end old new
-      → IsAnswer program Cut (Some ask) seen end old new
-  refused_answer ask none s refuses no_plan failed counted long never wrote =
+      → IsAnswer program (AsItComes Cut) (Some ask) seen end old new
+  refused_answer ask none s refuses no_plan failed counted taken never wrote =
       let endings = program.endings in
       inl (record {
         how = endings.of s;
-        text = endings.line (endings.of s);
+        text = alone (endings.line (endings.of s));
         tells = record {
           outcome =
-              refused_outcome program ask none seen.source s seen.fibres seen.fibres_left (endings.of s) (endings.line (endings.of s))
+              refused_outcome program ask none seen.source s seen.fibres seen.fibres_left (endings.of s) (alone (endings.line (endings.of s)))
               no_plan refl (refl, same_fibres);
           cause =
               subst (cause_of seen.reads seen.calls) (sym (endings.shared_of s)) (refusal_cause seen.reads seen.calls s refuses failed);
@@ -338,7 +341,8 @@ module _ {A L T E : Type 0} (program : Program A L T E) (Cut : CutRun T) (seen :
               counted =
                   counted_as seen.reads_exact seen.reads.before seen.reads.after (one_status endings s status.ReadFault) (ap endings.of)
                   counted;
-              too_long = λ e. long (one_status endings s status.TooLong e);
+              taken =
+                  taken_as plan_max seen.source seen.source_left (one_status endings s status.TooLong) (ap endings.of) taken;
             };
             plant =
                 counted_none seen.calls_exact seen.calls.before seen.calls.after
@@ -352,26 +356,27 @@ module _ {A L T E : Type 0} (program : Program A L T E) (Cut : CutRun T) (seen :
               λ b same may reads calls. absurd (never (read_has_plan program ask none seen.source seen.fibres
               (asked_done program ask (Some ask) refl b seen.source seen.fibres same may)) reads);
         };
-        wrote = wrote;
+        wrote = wrote_alone endings (endings.of s) end (endings.line (endings.of s)) old new wrote;
       })
 
   -- the words ask for nothing
   pub usage_answer : (seen.reads_exact ≡ true → seen.reads.after ≡ seen.reads.before)
+      → TakesFewer seen.source seen.source_left (plan_max + 1)
       → WroteEnding program.endings (program.endings.of status.Usage) (own_line program.usage) end old new
-      → IsAnswer program Cut None seen end old new
-  usage_answer same_reads wrote =
+      → IsAnswer program (AsItComes Cut) None seen end old new
+  usage_answer same_reads few wrote =
       let endings = program.endings in
       let other = λ (s : Status) (never : status.Usage ≡ s → ⊥) (e : endings.of status.Usage ≡ endings.of s).
       never (one_status endings status.Usage s e) in
       inl (record {
         how = endings.of status.Usage;
-        text = own_line program.usage;
+        text = alone (own_line program.usage);
         tells = record {
           outcome = (refl, (refl, same_fibres));
           cause = subst (cause_of seen.reads seen.calls) (sym (endings.shared_of status.Usage)) tt;
           came = record {
             source =
-                came_of_none seen.reads_exact seen.reads seen.source seen.source_left same_reads (other status.ReadFault (λ e. grind arith))
+                came_of_none plan_max seen.reads_exact seen.reads seen.source seen.source_left same_reads few (other status.ReadFault (λ e. grind arith))
                 (other status.TooLong (λ e. grind arith));
             plant =
                 counted_none seen.calls_exact seen.calls.before seen.calls.after (other status.PlantFault (λ e. grind arith)) same_calls;
@@ -382,7 +387,7 @@ module _ {A L T E : Type 0} (program : Program A L T E) (Cut : CutRun T) (seen :
           read = λ e. tt;
           complete = λ ask is may reads calls. absurd (some_none ask (sym is));
         };
-        wrote = wrote;
+        wrote = wrote_alone endings (endings.of status.Usage) end (own_line program.usage) old new wrote;
       })
 
 -- ---- what reading a plan returned
@@ -459,6 +464,6 @@ module _ {E : Type 0} (own its : Endings E) (same : own ≡ its) where
       (line ∙ ap (λ l. l ++ its.line given) empty ∙ ap (λ (e : Endings E). e.line given) (sym same) ∙ ap own.line is) x
 
 -- an answer to `a` is an answer to what is equal to `a`
-pub asked_answer : {A L T E : Type 0} (program : Program A L T E) (Cut : CutRun T) (a b : Option A) (seen : Seen) (end : E)
-    (old new : Option (List ℕ)) → a ≡ b → IsAnswer program Cut a seen end old new → IsAnswer program Cut b seen end old new
-asked_answer program Cut a b seen end old new is x = subst (λ o. IsAnswer program Cut o seen end old new) is x
+pub asked_answer : {A L T E : Type 0} (program : Program A L T E) (Cut : CutRun L) (a b : Option A) (seen : Seen) (end : E)
+    (old new : Option (List ℕ)) → a ≡ b → IsAnswer program (AsItComes Cut) a seen end old new → IsAnswer program (AsItComes Cut) b seen end old new
+asked_answer program Cut a b seen end old new is x = subst (λ o. IsAnswer program (AsItComes Cut) o seen end old new) is x

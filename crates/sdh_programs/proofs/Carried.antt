@@ -2,10 +2,7 @@
 use Rattle.std.proofs.Common.{◌≡◌, ℕ, ◌+◌, ◌≤◌, Bool, List, [], ◌++◌, length, refl, ap, sym, ◌∙◌, subst, inl, inr, arith}
 use Rattle.std.specs.Prelude.{Option, codes}
 use Rattle.std.proofs.lemmas.List.{length-append}
-use Rattle.std.proofs.KnownBytes.{Appends-trans}
 use Rattle.sdh_basics.specs.Causes.{one_more, IsCounted}
-use Rattle.sdh_outside.specs.Writing.{AppendsFewer}
-use Rattle.sdh_outside.proofs.Pieces.{fewer_behind}
 use Rattle.sdh_plant.specs.Fibres.{Fibres}
 use Rattle.sdh_plan.specs.Planned.{Planned}
 use Rattle.sdh_plan.specs.declared.step.Step.{Step}
@@ -16,7 +13,8 @@ use Rattle.sdh_rounds.specs.Held.{World}
 use Rattle.sdh_shell.specs.Calls.{HasRun}
 use Rattle.sdh_shell.specs.Endings.{Endings, refuses_plan, RefusesPlan}
 use Rattle.sdh_shell.specs.Failing.{Counts, HaveFailed}
-use Rattle.sdh_shell.specs.Writing.{IsShown, WroteEnding}
+use Rattle.sdh_shell.specs.Writing.{Parts, alone, AppendsUpTo, IsShown, WroteEnding}
+use Rattle.sdh_shell.proofs.Writing.{wrote_alone, wrote_after}
 use Rattle.sdh_shell.proofs.Endings.{has_run, one_status, is_shown}
 use Rattle.sdh_shell.proofs.Failing.{counted_none, counted_as}
 use Rattle.sdh_scripts.specs.Walks.{Walk}
@@ -90,7 +88,7 @@ module _ {A L T E : Type 0} (program : Program A L T E) (its : Endings E) (same 
 
 -- ---- what is asked, with a plan
 
-module _ {A L T E : Type 0} (program : Program A L T E) (Cut : CutRun T) (ask : A) (plan : Planned) (f : Fibres) where
+module _ {A L T E : Type 0} (program : Program A L T E) (Cut : CutRun L) (ask : A) (plan : Planned) (f : Fibres) where
   -- the plan is refused, and the line of the ending was to be written
   pub goes_refused : (why : E) → IsOnly program ask plan (Refuses why) → RefusesPlan program.endings why → (exact : Bool) (faults : ℕ)
       (end : E) (old new : Option (List ℕ)) → WroteEnding program.endings why (program.endings.line why) end old new
@@ -98,9 +96,9 @@ module _ {A L T E : Type 0} (program : Program A L T E) (Cut : CutRun T) (ask : 
   goes_refused why x refuses exact faults end old new wrote =
       inl (record {
         how = why;
-        text = program.endings.line why;
+        text = alone (program.endings.line why);
         outcome = (Refuses why, x.does, (refl, refuses, (refl, refl)));
-        wrote = wrote;
+        wrote = wrote_alone program.endings why end (program.endings.line why) old new wrote;
         failed = λ e. absurd (no_fault e);
         counted = counted_none exact faults faults no_fault (λ e. refl);
         complete = λ may fine. absurd (subst (λ d. may_do program d plan f) (x.only may.0 may.1) may.2);
@@ -116,9 +114,11 @@ module _ {A L T E : Type 0} (program : Program A L T E) (Cut : CutRun T) (ask : 
   goes_written told x exact faults end old new wrote =
       inl (record {
         how = program.endings.of status.Ok;
-        text = told ++ program.endings.line (program.endings.of status.Ok);
+        text = alone (told ++ program.endings.line (program.endings.of status.Ok));
         outcome = (Writes told, x.does, (refl, (refl, refl)));
-        wrote = wrote;
+        wrote =
+            wrote_alone program.endings (program.endings.of status.Ok) end (told ++ program.endings.line (program.endings.of status.Ok))
+            old new wrote;
         failed = λ e. absurd (no_fault e);
         counted = counted_none exact faults faults no_fault (λ e. refl);
         complete = λ may fine. refl;
@@ -140,7 +140,7 @@ module _ {A L T E : Type 0} (program : Program A L T E) (Cut : CutRun T) (ask : 
         let fault = faults listing r.told s in
         inl (record {
           how = how;
-          text = first ++ line;
+          text = record { first = first; last = line };
           outcome = (
             Runs listing,
             x.does,
@@ -149,14 +149,11 @@ module _ {A L T E : Type 0} (program : Program A L T E) (Cut : CutRun T) (ask : 
               ends = h;
               told = r.told;
               how_is = how_is;
-              text_is = ap (λ l. first ++ l) line_is;
+              text_is = ap (λ (l : List ℕ). record { first = first; last = l }) line_is;
               came = r.came;
             },
           );
-          wrote = elim wrote [
-            | inl whole ↦ inl (whole.0, Appends-trans old mid new first line r.text whole.1)
-            | inr front ↦ inr (front.0, fewer_behind old mid new first line r.text front.1)
-          ];
+          wrote = wrote_after program.endings how end first line old mid new r.text wrote;
           failed = λ e. failed (fault.back (sym how_is ∙ e));
           counted =
               counted_as exact calls.before calls.after (λ e. fault.back (sym how_is ∙ e)) (λ e. how_is ∙ fault.ends e) counted;
@@ -168,7 +165,7 @@ module _ {A L T E : Type 0} (program : Program A L T E) (Cut : CutRun T) (ask : 
     -- a write failed while the plan was run
     pub goes_cut : (left : Fibres) (s : Status) (end : E) (old new : Option (List ℕ)) → s ≡ status.WriteFault
         → end ≡ program.endings.of status.WriteFault
-        → (told : List T) × Cut plan f told left × AppendsFewer old new (program.text_of listing told)
+        → (text : Parts) × Cut listing plan f text left × AppendsUpTo old new text
         → IsCounted exact (s ≡ status.PlantFault) calls.before calls.after
         → Goes program Cut ask plan f left exact calls end old new
     goes_cut left s end old new fault end_is cut counted =

@@ -10,7 +10,7 @@ use Rattle.sdh_rounds.specs.Quiet.{enough_for}
 use Rattle.sdh_scripts.specs.Outcomes.{AllSettled}
 use Rattle.sdh_shell.specs.Calls.{HasRun}
 use Rattle.sdh_shell.specs.Failing.{Counts}
-use Rattle.sdh_shell.specs.Writing.{WritesWith}
+use Rattle.sdh_shell.specs.Writing.{Parts, joined, WritesWith}
 use Rattle.sdh_shell.proofs.Plans.{one_plan}
 use Rattle.sdh_shell.proofs.Told.{told_all}
 use Rattle.sdh_shell.proofs.Refused.{no_run}
@@ -41,7 +41,7 @@ NeverWrites program ask = (plan : Planned) (told : List ℕ) → program.Does as
 
 module _ {A L T E : Type 0} (program : Program A L T E) (ask : A) (f left : Fibres) where
   -- where a script came to its end, a plan came of what was asked, and this is its outcome
-  of_own : (own : Option Planned) (bytes : List ℕ) (how : E) (text : List ℕ) (plan : Planned) (s : Status) → how ≡ program.endings.of s
+  of_own : (own : Option Planned) (bytes : List ℕ) (how : E) (text : Parts) (plan : Planned) (s : Status) → how ≡ program.endings.of s
       → HasRun s → is_plan_for own bytes plan → OfOwnPlan program ask own bytes f how text left → OfPlan program ask plan f how text left
   of_own None bytes how text plan s is h tells (inl x) =
       no_run bytes x.status _ x.none (subst HasRun (one_status program.endings s x.status (sym is ∙ x.how_is)) h)
@@ -50,7 +50,7 @@ module _ {A L T E : Type 0} (program : Program A L T E) (ask : A) (f left : Fibr
   of_own (Some own) bytes how text plan s is h same x = subst (λ p. OfPlan program ask p f how text left) (sym same) x
 
   -- a plan whose run came to its end wasn't refused
-  ran_deed : (deed : Deed L E) (how : E) (text : List ℕ) (plan : Planned) (s : Status) → how ≡ program.endings.of s → HasRun s
+  ran_deed : (deed : Deed L E) (how : E) (text : Parts) (plan : Planned) (s : Status) → how ≡ program.endings.of s → HasRun s
       → NeverWrites program ask → program.Does ask plan deed → OfDeed program deed plan f how text left
       → (listing : L) × program.Does ask plan (Runs listing)
   ran_deed (Refuses why) how text plan s is h never does x = absurd (not_refused program.endings how s is h x.1)
@@ -62,11 +62,12 @@ module _ {A L T E : Type 0} (program : Program A L T E) (ask : A) (f left : Fibr
       (plain : program.closing ≡ as_script L T program.endings) where
     -- what was written where a script came to its end, and what came of the plan
     whole : (plan : Planned) (s : Status) → IsPlanFor program ask bytes plan → how ≡ program.endings.of s → HasRun s
-        → (text : List ℕ) × OfPlan program ask plan f how text left × Appends old new text
+        → (text : Parts) × OfPlan program ask plan f how text left × Appends old new (joined text)
     whole plan s tells is h =
         let w = was_whole program.endings (λ how text. MayEnd program (Some ask) bytes f reads calls how text left) how old new
         (ran_whole program.endings how s is h) wrote in
-        (w.0, of_own (program.own_plan ask) bytes how w.0 plan s is h tells w.1.0, w.2)
+        let text = w.1.0 in
+        (text, of_own (program.own_plan ask) bytes how text plan s is h tells w.1.2.0, subst (Appends old new) w.1.1 w.2)
 
     -- what holds of each run of a plan holds of the one that was shown
     pub shows : (P : Planned → List T → Status → Type 0) → RunsAlone program ask
@@ -78,8 +79,8 @@ module _ {A L T E : Type 0} (program : Program A L T E) (ask : A) (f left : Fibr
         subst (λ d. OfDeed program d plan f how w.0 left) (alone plan listing w.1.0 does w.1.1) w.1.2 in
         let ends : how ≡ program.endings.of r.status =
         r.how_is ∙ ap (λ (c : Closing L T program.endings). c.ends listing r.told r.status) plain in
-        let line : w.0 ≡ program.text_of listing r.told ++ program.endings.line how =
-        r.text_is ∙ ap (λ (c : Closing L T program.endings). program.text_of listing r.told ++ c.line listing how) plain in
+        let line : joined w.0 ≡ program.text_of listing r.told ++ program.endings.line how =
+        ap joined r.text_is ∙ ap (λ (c : Closing L T program.endings). program.text_of listing r.told ++ c.line listing how) plain in
         let same : r.status ≡ s = one_status program.endings r.status s (sym ends ∙ is) in
         (r.told, subst (Appends old new) line w.2, so plan r.told s (subst (λ t. program.IsRunOf plan f r.told t left) same r.came))
 

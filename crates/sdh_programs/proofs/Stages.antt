@@ -2,26 +2,24 @@
 use Rattle.std.proofs.Common.{◌≡◌, ℕ, None, Some, List, [], refl, ap, sym, ◌∙◌, subst, inl, inr}
 use Rattle.std.proofs.lemmas.Option.{same_Some}
 use Rattle.std.specs.Prelude.{Option, IfSome, is_some}
-use Rattle.std.specs.Io.KnownBytes.{IsAtEnd, Appends}
+use Rattle.std.specs.Io.KnownBytes.{IsAtEnd}
 use Rattle.sdh_plant.specs.Fibres.{Fibres}
 use Rattle.sdh_plan.specs.Planned.{Planned}
 use Rattle.sdh_status.specs.declared.Status.{Status}
 use Rattle.sdh_status.specs.declared.Status.TheVariants as status
 use Rattle.sdh_shell.specs.Endings.{refuses_plan}
 use Rattle.sdh_shell.specs.Reading.{HasNoPlan, HasPlan, TellsPlan, told_if}
-use Rattle.sdh_shell.specs.Failing.{Counts, EndsWithCause}
-use Rattle.sdh_shell.specs.Writing.{Says, WritesWith, IsShown}
+use Rattle.sdh_shell.specs.Writing.{Parts, Says}
 use Rattle.sdh_shell.proofs.Plans.{one_plan}
 use Rattle.sdh_shell.proofs.Told.{told_all}
 use Rattle.sdh_shell.proofs.Endings.{EndsPlan}
-use Rattle.sdh_shell.proofs.Writing.{told_whole}
 use Rattle.sdh_programs.specs.Programs.{Deed, Refuses, Writes, Runs, IsRunEnd, Program}
-use Rattle.sdh_programs.specs.Outcome.{OfDeed, OfPlan, OfBytes, OfOwnPlan, IsOutcome, MayEnd}
+use Rattle.sdh_programs.specs.Outcome.{OfDeed, OfPlan, OfBytes, OfOwnPlan, IsOutcome}
 use Rattle.sdh_shell.specs.Reading.{HasRead}
 use Rattle.sdh_programs.specs.Outcome.{reads_without, reads_source, told}
 use Rattle.sdh_programs.specs.Headline.{is_plan_for, MayGo, MayBeDone}
 
-module _ {A L T E : Type 0} (program : Program A L T E) (plan : Planned) (f left : Fibres) (how : E) (text : List ℕ) where
+module _ {A L T E : Type 0} (program : Program A L T E) (plan : Planned) (f left : Fibres) (how : E) (text : Parts) where
   -- how a deed ends, whichever it is
   deed_ends : (deed : Deed L E) → OfDeed program deed plan f how text left → EndsPlan program.endings how
   deed_ends (Refuses why) x = inr x.1
@@ -38,7 +36,7 @@ module _ {A L T E : Type 0} (program : Program A L T E) (ask : A) where
   -- ---- with a plan of its own
 
   module _ (plan : Planned) (is : program.own_plan ask ≡ Some plan) where
-    pub own_outcome : (source : Option (List ℕ)) (f left : Fibres) (how : E) (text : List ℕ) → OfPlan program ask plan f how text left
+    pub own_outcome : (source : Option (List ℕ)) (f left : Fibres) (how : E) (text : Parts) → OfPlan program ask plan f how text left
         → IfSome (told program (Some ask) source) (λ bytes. IsOutcome program (Some ask) bytes f how text left)
     own_outcome source f left how text x =
         subst (λ o. IfSome (told_if (reads_without o) source) (λ bytes. OfOwnPlan program ask o bytes f how text left)) (sym is) x
@@ -56,20 +54,20 @@ module _ {A L T E : Type 0} (program : Program A L T E) (ask : A) where
   -- ---- with the bytes of a source
 
   module _ (none : program.own_plan ask ≡ None) where
-    read_outcome : (source : Option (List ℕ)) (f left : Fibres) (how : E) (text : List ℕ)
+    read_outcome : (source : Option (List ℕ)) (f left : Fibres) (how : E) (text : Parts)
         → IfSome source (λ bytes. OfBytes program ask bytes f how text left)
         → IfSome (told program (Some ask) source) (λ bytes. IsOutcome program (Some ask) bytes f how text left)
     read_outcome source f left how text x =
         subst (λ o. IfSome (told_if (reads_without o) source) (λ bytes. OfOwnPlan program ask o bytes f how text left)) (sym none) x
 
-    pub plan_outcome : (source : Option (List ℕ)) (plan : Planned) (f left : Fibres) (how : E) (text : List ℕ)
+    pub plan_outcome : (source : Option (List ℕ)) (plan : Planned) (f left : Fibres) (how : E) (text : Parts)
         → IfSome source (λ bytes. TellsPlan bytes plan) → OfPlan program ask plan f how text left
         → IfSome (told program (Some ask) source) (λ bytes. IsOutcome program (Some ask) bytes f how text left)
     plan_outcome source plan f left how text tells x =
         read_outcome source f left how text (told_all source _ (λ (bytes : List ℕ). OfBytes program ask bytes f how text left)
         (λ bytes is. inr (plan, is, x)) tells)
 
-    pub refused_outcome : (source : Option (List ℕ)) (s : Status) (f left : Fibres) (how : E) (text : List ℕ)
+    pub refused_outcome : (source : Option (List ℕ)) (s : Status) (f left : Fibres) (how : E) (text : Parts)
         → IfSome source (λ bytes. HasNoPlan bytes s) → how ≡ program.endings.of s → Says (program.endings.line how) text f left
         → IfSome (told program (Some ask) source) (λ bytes. IsOutcome program (Some ask) bytes f how text left)
     refused_outcome source s f left how text none_is is says =
@@ -107,17 +105,6 @@ module _ {A L T E : Type 0} (program : Program A L T E) (ask : A) where
         → MayBeDone program ask (told program (Some ask) source) f
     asked_done b source f other x =
         subst (λ c. MayBeDone program c (told program (Some c) source) f) (same_Some b ask (sym other ∙ is)) x
-
--- ---- what is written
-
-module _ {A L T E : Type 0} (program : Program A L T E) (a : Option A) (source : Option (List ℕ)) (f left : Fibres) (reads calls : Counts)
-    (how : E) (text : List ℕ) (old new : Option (List ℕ)) (cause : EndsWithCause program.endings reads calls how)
-    (outcome : IfSome (told program a source) (λ bytes. IsOutcome program a bytes f how text left)) where
-  pub written_whole : IsShown program.endings how → Appends old new text → IfSome (told program a source)
-      (λ bytes. WritesWith program.endings (λ how text. MayEnd program a bytes f reads calls how text left) how old new)
-  written_whole shown appends =
-      told_whole program.endings (told program a source) (λ bytes how text. IsOutcome program a bytes f how text left) reads calls how text
-      old new cause outcome shown appends
 
 -- a program that never has a plan of its own reads the source whenever something is asked
 pub reads_all : {A L T E : Type 0} (program : Program A L T E) → ((ask : A) → program.own_plan ask ≡ None) → (a : Option A)

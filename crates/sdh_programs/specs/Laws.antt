@@ -2,11 +2,11 @@
 use Rattle.std.specs.Prelude.{ℕ, ◌≡◌, true, List, Option}
 use Rattle.std.specs.Io.KnownBytes.{Appends}
 use Rattle.sdh_basics.specs.Causes.{Rose}
-use Rattle.sdh_outside.specs.Writing.{AppendsFewer}
 use Rattle.sdh_plant.specs.Fibres.{Fibres, HasNoFibres, IsHonest}
 use Rattle.sdh_plan.specs.Planned.{Planned}
 use Rattle.sdh_status.specs.declared.Status.{Status}
 use Rattle.sdh_status.specs.declared.Status.TheVariants as status
+use Rattle.sdh_shell.specs.Writing.{Parts, AppendsUpTo}
 use Rattle.sdh_rounds.specs.Held.{HeldRing, World}
 use Rattle.sdh_scripts.specs.Walks.{Walk}
 use Rattle.sdh_scripts.specs.Outcomes.{with_fibres}
@@ -39,15 +39,16 @@ StepsAreReported {L = L} {N = N} {R = R} program walk ring text_of begun_of Begi
     old new end left
     → IsReported program Leaves listing plan f old new end left
 
--- where a write failed, only the first bytes were written of what was to be listed of the steps that had run
-abbrev pub CutsAreReported : {A L T E N R K O : Type 0} → Program A L T E → CutRun T → (O → Option (List ℕ)) → (O → ℕ) → Walk N K
+-- where a write failed, all was written that was to be written before of the steps that had run, and of what was to be
+-- written then only a beginning
+abbrev pub CutsAreReported : {A L T E N R K O : Type 0} → Program A L T E → CutRun L → (O → Option (List ℕ)) → (O → ℕ) → Walk N K
     → (R → HeldRing N) → (R → K → List ℕ) → (R → K → List ℕ) → (L → Planned → NewRun R → Type 0) → Type 0
-CutsAreReported {L = L} {T = T} {N = N} {R = R} {O = O} program Cut written faults walk ring text_of begun_of Begins =
+CutsAreReported {L = L} {N = N} {R = R} {O = O} program Cut written faults walk ring text_of begun_of Begins =
     (listing : L) (plan : Planned) (run : NewRun R) (f : Fibres) (before after : O) (left : World N)
     → Begins listing plan run → IsFresh f → Rose (faults before) (faults after)
     → WriteFailed walk run.script.limit (text_of run.runner) (begun_of run.runner) run.script.steps.items (with_fibres (ring run.runner) f)
     (written before) (written after) left
-    → (told : List T) × Cut plan f told left.fibres × AppendsFewer (written before) (written after) (program.text_of listing told)
+    → (text : Parts) × Cut listing plan f text left.fibres × AppendsUpTo (written before) (written after) text
 
 -- a run that has all it needs, and that no fault of the plant broke off, is done
 abbrev pub SettledRunsAreDone : {A L T E : Type 0} → Program A L T E → Type 0

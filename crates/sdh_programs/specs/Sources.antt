@@ -2,7 +2,6 @@
 use Rattle.std.specs.Prelude.{ℕ, ◌≡◌, List, Option, Some, None, IfSome}
 use Rattle.std.specs.Io.KnownBytes.{IsAtEnd}
 use Rattle.sdh_basics.specs.Causes.{Rose}
-use Rattle.sdh_outside.specs.Reading.{TakesCount}
 use Rattle.sdh_plan.specs.Planned.{Planned}
 use Rattle.sdh_status.specs.declared.Status.{Status}
 use Rattle.sdh_status.specs.declared.Status.TheVariants as status
@@ -21,7 +20,6 @@ pub record IsUnread (source left : Option (List ℕ)) (before after : ℕ) (s : 
   pub kind : Refuses s
   pub none : IfSome source (λ bytes. HasNoPlan bytes s)
   pub fault : s ≡ status.ReadFault → Rose before after
-  pub too_long : s ≡ status.TooLong → TakesCount source left 1048577
   -- the source hasn't the bytes of a plan, or a read failed
   pub never : HasPlan source → (Rose before after → ⊥) → ⊥
 

@@ -1,13 +1,15 @@
 //! The answer to a call: its words lead to an ending and to the text that is written.
-ghost use Rattle.std.specs.Prelude.{◌≡◌, ◌≤◌, true, false, [], Some, Err, IfOk, IfErr, OnErr};
+ghost use Rattle.std.specs.Prelude.{◌≡◌, ◌+◌, ◌≤◌, true, false, [], Some, Err, IfOk, IfErr, OnErr};
 ghost use Rattle.sdh_basics.specs.Causes.{Rose, IsCounted};
+ghost use Rattle.sdh_outside.specs.Reading.{TakesFewer};
 ghost use Rattle.sdh_plant.specs.Fibres.{HasNoFibres};
 ghost use Rattle.sdh_report.specs.Lines.{own_line};
 ghost use Rattle.sdh_status.specs.declared.Status.{Status};
 ghost use Rattle.sdh_shell.specs.Calls.{words_of};
+ghost use Rattle.sdh_shell.specs.Failing.{plan_max, TakesAtMost};
 ghost use Rattle.sdh_shell.specs.Writing.{WroteEnding, Whole, telling_of};
 ghost use Rattle.sdh_programs.specs.Outcome.{LeavesPlant, reads_source};
-ghost use Rattle.sdh_programs.specs.Calls.{Seen, IsAnswer};
+ghost use Rattle.sdh_programs.specs.Calls.{AsItComes, Seen, IsAnswer};
 ghost use Rattle.sdh_programs.specs.Sources.{IsPlanOf, IsNoPlanOf};
 
 use crate::carrying::{carry_out, ending_of, endings_agree};
@@ -71,6 +73,7 @@ fn plan_for<'a, O: Output, P: Plant, M: Program<'a, O, P>, R: Source>(
     ensures none { IfErr result (λ why. IsNoPlanOf (M.program.own_plan (M.ask_of asked.now)) (R.left source.old) (R.left source.new)
         (R.faults source.old) (R.faults source.new) why) }
     ensures counted { IsCounted R.exact (result ≡ Err (NoPlan.Refused Status.ReadFault)) (R.faults source.old) (R.faults source.new) }
+    ensures taken { TakesAtMost plan_max (R.left source.old) (R.left source.new) (result ≡ Err (NoPlan.Refused Status.TooLong)) }
     ensures unread { reads_source M.program (Some (M.ask_of asked.now)) ≡ false → source.new ≡ source.old }
     ensures later { R.faults source.old ≤ R.faults source.new }
 {
@@ -102,12 +105,13 @@ pub fn answer<'a, O: Output, P: Plant, M: Program<'a, O, P>, R: Source>(
       source_left = R.left source.new;
       fibres = P.fibres plant.old;
       fibres_left = P.fibres plant.new;
-    } in IsAnswer M.program M.cut (M.program.asked (words_of words.now)) seen end (O.written output.old) (O.written output.new)) }
+    } in IsAnswer M.program (AsItComes M.cut) (M.program.asked (words_of words.now)) seen end (O.written output.old) (O.written output.new)) }
     ensures fault { IfOk result (λ end. end ≡ M.program.endings.of Status.WriteFault → Rose (O.faults output.old) (O.faults output.new)) }
     ensures writes { IfOk result
         (λ end. IsCounted O.exact (end ≡ M.program.endings.of Status.WriteFault) (O.faults output.old) (O.faults output.new)) }
     ensures without { OnErr result
         ((R.exact ≡ true → R.faults source.new ≡ R.faults source.old) × (P.exact ≡ true → P.faults plant.new ≡ P.faults plant.old)) }
+    ensures few { OnErr result (TakesFewer (R.left source.old) (R.left source.new) (plan_max + 1)) }
     ensures unread { reads_source M.program (M.program.asked (words_of words.now)) ≡ false → source.new ≡ source.old }
     ensures alone { LeavesPlant M.program (M.program.asked (words_of words.now)) → plant.new ≡ plant.old }
     ensures later { (R.faults source.old ≤ R.faults source.new) × (O.faults output.old ≤ O.faults output.new)

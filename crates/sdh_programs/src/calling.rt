@@ -5,8 +5,8 @@ ghost use Rattle.sdh_shell.specs.Calls.{words_of};
 ghost use Rattle.sdh_shell.specs.Failing.{Counts};
 ghost use Rattle.sdh_shell.specs.Kept.{seen_around};
 ghost use Rattle.sdh_shell.specs.Writing.{WritesWith, TellsWith};
-ghost use Rattle.sdh_programs.specs.Outcome.{MayEnd, told};
-ghost use Rattle.sdh_programs.specs.Calls.{IsCutShort, KeepsCall, never_cut};
+ghost use Rattle.sdh_programs.specs.Outcome.{MayEnd, MayEndIn, told};
+ghost use Rattle.sdh_programs.specs.Calls.{AtOnce, AsItComes, IsCutShort, KeepsCall};
 
 use crate::answering::answer;
 use crate::carrying::{ending_of, endings_agree};
@@ -31,20 +31,20 @@ pub fn call_over<'a, W: Sink, P: Plant, M: Program<'a, W, P>, R: Source>(
     requires same { (old new : W) → M.Reserves old new → new ≡ old }
 
     // The ending and the text that is written, where the bytes of a source that is read are known, and where the sink
-    // shows what was written. Where a write failed while a plan was run, only the first bytes of what was to be
-    // reported of it were written.
+    // shows what was written. Where a write failed, all was written that was to be written before, and of what was being
+    // written only a beginning.
     ensures outcome { let ask = M.program.asked (words_of words.now) in
         let reads : Counts = record { before = R.faults source.old; after = R.faults source.new } in
         let calls : Counts = record { before = P.faults plant.old; after = P.faults plant.new } in
         IfSome (told M.program ask (R.left source.old)) (λ bytes. TellsWith M.program.endings
-        (λ how text. MayEnd M.program ask bytes (P.fibres plant.old) reads calls how text (P.fibres plant.new))
-        (IsCutShort M.program M.cut ask bytes (P.fibres plant.old) (W.written sink.old) (W.written sink.new) (P.fibres plant.new))
+        (λ how text. MayEndIn M.program ask bytes (P.fibres plant.old) reads calls how text (P.fibres plant.new))
+        (IsCutShort M.program (AsItComes M.cut) ask bytes (P.fibres plant.old) (W.written sink.old) (W.written sink.new) (P.fibres plant.new))
         result (W.written sink.old) (W.written sink.new)) }
 
     // What the call keeps, over every source, sink and plant (`KeepsAll` in `sdh_shell/specs/Kept`): each fault has its
     // cause, what isn't asked for stays as it was, and where all that is needed is given, and no call fails, everything
     // is done.
-    ensures kept { KeepsCall M.program M.cut (M.program.asked (words_of words.now))
+    ensures kept { KeepsCall M.program (AsItComes M.cut) (M.program.asked (words_of words.now))
         (seen_around R.faults R.exact R.left source.old source.new) (seen_around W.faults W.exact W.written sink.old sink.new)
         (seen_around P.faults P.exact P.fibres plant.old plant.new) result }
 {
@@ -78,7 +78,7 @@ pub fn call<'a, P: Plant, M: Program<'a, Text, P>, R: Source, W: Sink>(
     // What the call keeps, over every source, sink and plant (`KeepsAll` in `sdh_shell/specs/Kept`): each fault has its
     // cause, what isn't asked for stays as it was, and where all that is needed is given, and no call fails, everything
     // is done.
-    ensures kept { KeepsCall M.program never_cut (M.program.asked (words_of words.now))
+    ensures kept { KeepsCall M.program AtOnce (M.program.asked (words_of words.now))
         (seen_around R.faults R.exact R.left source.old source.new) (seen_around W.faults W.exact W.written sink.old sink.new)
         (seen_around P.faults P.exact P.fibres plant.old plant.new) result }
 {

@@ -49,8 +49,8 @@ pub trait Program<'a, O: Output, P: Plant>: Copy {
     /// How the program is called, and what it reports of plans.
     ghost program: { Program Ask Self.Listing Told Self.Ending };
 
-    /// What was to be reported of settle steps of a plan where a write failed and nothing more was run.
-    ghost cut: { CutRun Told };
+    /// What was written and was to be written of the run of a plan where a write failed and nothing more was run.
+    ghost cut: { CutRun Self.Listing };
 
     /// What is asked for.
     ghost ask_of: { Self → Ask };

@@ -1,7 +1,8 @@
 -- What the parts of an answer come to.
-use Rattle.std.proofs.Common.{◌≡◌, ℕ, Bool, true, List, [], ◌++◌, Option, refl, ap, sym, subst, ◌∙◌}
+use Rattle.std.proofs.Common.{◌≡◌, ℕ, ◌+◌, Bool, true, List, [], ◌++◌, Option, refl, ap, sym, subst, ◌∙◌}
 use Rattle.std.specs.Prelude.{codes}
 use Rattle.std.specs.Io.KnownBytes.{Appends}
+use Rattle.sdh_outside.specs.Reading.{TakesFewer}
 use Rattle.sdh_report.specs.Lines.{own_line}
 use Rattle.sdh_shell.specs.Failing.{Counts, HaveFailed}
 use Rattle.sdh_shell.proofs.Failing.{came_of_none}
@@ -9,7 +10,7 @@ use Rattle.sdh_retime_cli.specs.declared.status.Status.{Status}
 use Rattle.sdh_retime_cli.specs.declared.status.Status.TheVariants as status
 use Rattle.sdh_retime_cli.specs.Digits.{IsDigits, AreDigits, chunks}
 use Rattle.sdh_retime_cli.specs.Lines.{lines_of, drift_line}
-use Rattle.sdh_retime_cli.specs.Outcome.{IsRetimed, IsOutcome, HasCause, MayEnd, RetimingWrites, RetimingCameTo, TellsUnsteady}
+use Rattle.sdh_retime_cli.specs.Outcome.{bytes_max, IsRetimed, IsOutcome, HasCause, MayEnd, RetimingWrites, RetimingCameTo, TellsUnsteady}
 use Rattle.sdh_retime_cli.proofs.Unsteady.{drifts_are_unsteady}
 
 -- the turn of a run that ended with a drift
@@ -58,6 +59,6 @@ usage_is words s text other is line = subst (λ (how : Status). IsOutcome words 
 
 -- memory ran out, and no read failed
 pub came_without : (exact : Bool) (before after : ℕ) (left now : Option (List ℕ)) → (exact ≡ true → after ≡ before)
-    → RetimingCameTo exact before after left now status.Memory
-came_without exact before after left now same =
-    came_of_none exact (record { before = before; after = after }) left now same (λ e. cc) (λ e. cc)
+    → TakesFewer left now (bytes_max + 1) → RetimingCameTo exact before after left now status.Memory
+came_without exact before after left now same few =
+    came_of_none bytes_max exact (record { before = before; after = after }) left now same few (λ e. cc) (λ e. cc)

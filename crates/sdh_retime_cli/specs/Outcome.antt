@@ -1,10 +1,11 @@
 -- How a call of the program ends: each status, when it comes, and the text that goes with it.
-use Rattle.std.specs.Prelude.{◌≡◌, ℕ, suc, ◌+◌, ◌-◌, ◌<◌, ◌≤◌, ◌⊎◌, Bool, true, false, List, [], ◌∷◌, ◌++◌, length, codes, Option}
+use Rattle.std.specs.Prelude.{◌≡◌, ℕ, suc, ◌+◌, ◌-◌, ◌<◌, ◌≤◌, ◌⊎◌, Bool, true, false, List, [], ◌∷◌, ◌++◌, length, codes, Option, Some, IfSome}
 use Rattle.sdh_report.specs.Lines.{own_line}
 use Rattle.sdh_elastic.specs.History.{lasts, lengths}
 use Rattle.std.specs.Io.KnownBytes.{Appends}
 use Rattle.sdh_outside.specs.Reading.{TellsAtMost}
-use Rattle.sdh_shell.specs.Kept.{Around, Common, Keeps}
+use Rattle.sdh_outside.specs.Writing.{AppendsFewer}
+use Rattle.sdh_shell.specs.Kept.{Around, counts_of, Common, Keeps}
 use Rattle.sdh_shell.specs.Failing.{Counts, HaveFailed, CameOfSource}
 use Rattle.sdh_shell.specs.Writing.{Telling, Whole, Front, Nothing, WritesAs}
 use Rattle.sdh_retime_cli.specs.declared.status.Status.{Status}
@@ -91,13 +92,17 @@ pub record Answers (words : List (List ℕ)) (bytes : List ℕ) (reads : Counts)
   pub numbered : number ≡ number_of status
   pub writes : RetimingWrites words bytes reads status old new
 
+-- the most bytes that the program accepts
+abbrev pub bytes_max : ℕ
+bytes_max = 1048576
+
 -- How many reads failed, and how many bytes were taken, by the time that the program came to the status `how`. It
 -- returns this status, or a write fault if writing the text fails. Where the source's count of faults is exact, one
--- read failed if `how` is a read fault, and none otherwise. If `how` is `TooLong`, 1,048,577 bytes were taken, one more
--- than the program accepts.
+-- read failed if `how` is a read fault, and none otherwise. Exactly if `how` is `TooLong`, 1,048,577 bytes were taken,
+-- one more than the program accepts, and none after them.
 abbrev pub RetimingCameTo : Bool → ℕ → ℕ → Option (List ℕ) → Option (List ℕ) → Status → Type 0
 RetimingCameTo exact before after left now how =
-    CameOfSource exact (record { before = before; after = after }) left now (how ≡ status.ReadFault) (how ≡ status.TooLong)
+    CameOfSource (Some bytes_max) exact (record { before = before; after = after }) left now (how ≡ status.ReadFault) (how ≡ status.TooLong)
 
 -- a status with which the source was read to its end, and the run came to an end
 abbrev pub HasRun : Status → Type 0
@@ -142,6 +147,7 @@ DriftsAreUnsteady =
 abbrev pub common : Common Status
 common = record {
   IsDone = HasRun;
+  most = Some bytes_max;
   usage = status.Usage;
   read_fault = status.ReadFault;
   too_long = status.TooLong;
@@ -149,9 +155,17 @@ common = record {
   memory = status.Memory;
 }
 
+-- What is said of the ending `how`, which was to be reported, where the call returned `end`. A text that goes with it was
+-- to be written, and was, or a write failed and only a beginning of the text was written; or memory ran out.
+abbrev pub RetimingSays : List (List ℕ) → Counts → Option (List ℕ) → Status → Option (List ℕ) → Option (List ℕ) → Status → Type 0
+RetimingSays words reads left end old new how =
+    ((text : List ℕ) × IfSome left (λ bytes. MayEnd words bytes reads how text)
+    × (((end ≡ how) × Appends old new text) ⊎ ((end ≡ status.WriteFault) × AppendsFewer old new text)))
+    ⊎ ((how ≡ end) × (end ≡ status.Memory))
+
 -- What a call keeps of its source and its sink when it ends with a status. With digits and at most 1,048,576 bytes, and
 -- no call that fails, the run comes to its end, or memory runs out.
 abbrev pub KeepsRetiming : {R W : Type 0} → List (List ℕ) → Around R (Option (List ℕ)) → Around W (Option (List ℕ)) → Status → Type 0
 KeepsRetiming words source sink end =
-    Keeps common (AreDigits words → ⊥) (AreDigits words → ⊥) (AreDigits words × TellsAtMost (source.shows source.before) 1048576)
-    (λ how. Unit {0}) source sink end
+    Keeps common (AreDigits words → ⊥) (AreDigits words → ⊥) (AreDigits words × TellsAtMost (source.shows source.before) bytes_max)
+    (RetimingSays words (counts_of source) (source.shows source.before) end (sink.shows sink.before) (sink.shows sink.after)) source sink end

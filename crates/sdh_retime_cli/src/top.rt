@@ -1,16 +1,16 @@
 //! The program's call.
-ghost use Rattle.std.specs.Prelude.{◌≡◌, ◌≢◌, ◌⊎◌, ℕ, ◌<◌, ◌≤◌, ◌↔◌, true, [], length, codes, IfOk, OnErr, IfSome};
+ghost use Rattle.std.specs.Prelude.{◌≡◌, ◌≢◌, ◌⊎◌, ℕ, ◌+◌, ◌<◌, ◌≤◌, ◌↔◌, true, [], length, codes, IfOk, OnErr, IfSome};
 ghost use Rattle.std.specs.Io.KnownBytes.{IsAtEnd};
 ghost use Rattle.sdh_basics.specs.Causes.{Rose, IsCounted};
-ghost use Rattle.sdh_outside.specs.Reading.{TakesCount, TellsAtMost};
+ghost use Rattle.sdh_outside.specs.Reading.{TakesFewer, TellsAtMost};
 ghost use Rattle.sdh_report.specs.Lines.{own_line};
 ghost use Rattle.sdh_shell.specs.Calls.{words_of};
-ghost use Rattle.sdh_shell.specs.Failing.{Counts};
+ghost use Rattle.sdh_shell.specs.Failing.{Counts, TakesAtMost};
 ghost use Rattle.sdh_shell.specs.Kept.{seen_around};
 ghost use Rattle.sdh_retime_cli.specs.Digits.{AreDigits};
 ghost use Rattle.sdh_retime_cli.specs.declared.status.Status.{Status};
 ghost use Rattle.sdh_retime_cli.specs.Front.{TellsFront, WritesFront};
-ghost use Rattle.sdh_retime_cli.specs.Outcome.{number_of, IsOutcome, RetimingWrites, Answers, RetimingCameTo, HasRun, AreUnsteady, WritesUnsteady, KeepsRetiming};
+ghost use Rattle.sdh_retime_cli.specs.Outcome.{number_of, bytes_max, IsOutcome, RetimingWrites, Answers, RetimingCameTo, HasRun, AreUnsteady, WritesUnsteady, RetimingSays, KeepsRetiming};
 
 use crate::digits::digits_of;
 use crate::retiming::{Outcome, run};
@@ -54,7 +54,8 @@ fn outcome_of<R: Source>(
     ensures reads { IfOk result
         (λ told. IsCounted R.exact (told.status ≡ Status.ReadFault) (R.faults source.old) (R.faults source.new)) }
     ensures without { OnErr result (R.exact ≡ true → R.faults source.new ≡ R.faults source.old) }
-    ensures too_long { IfOk result (λ told. told.status ≡ Status.TooLong → TakesCount (R.left source.old) (R.left source.new) 1048577) }
+    ensures taken { IfOk result (λ told. TakesAtMost bytes_max (R.left source.old) (R.left source.new) (told.status ≡ Status.TooLong)) }
+    ensures few { OnErr result (TakesFewer (R.left source.old) (R.left source.new) (bytes_max + 1)) }
     ensures later { R.faults source.old ≤ R.faults source.new }
 {
     // Room for the line is taken first, so that a failed read is always reported.
@@ -91,8 +92,10 @@ fn answer<R: Source, W: Sink>(
         → (result ≡ Status.Usage) ⊎ (result ≡ Status.WriteFault) ⊎ (result ≡ Status.Memory) }
     ensures read_fault { result ≡ Status.ReadFault → Rose (R.faults source.old) (R.faults source.new) }
     ensures write_fault { result ≡ Status.WriteFault → Rose (W.faults sink.old) (W.faults sink.new) }
-    ensures came { (how : Status) × ((result ≡ how) ⊎ (result ≡ Status.WriteFault))
-        × RetimingCameTo R.exact (R.faults source.old) (R.faults source.new) (R.left source.old) (R.left source.new) how }
+    ensures came { let reads : Counts = record { before = R.faults source.old; after = R.faults source.new } in
+        (how : Status) × ((result ≡ how) ⊎ (result ≡ Status.WriteFault))
+        × RetimingCameTo R.exact (R.faults source.old) (R.faults source.new) (R.left source.old) (R.left source.new) how
+        × RetimingSays (words_of words.now) reads (R.left source.old) result (W.written sink.old) (W.written sink.new) how }
     ensures writes { IsCounted W.exact (result ≡ Status.WriteFault) (W.faults sink.old) (W.faults sink.new) }
     ensures memory { result ≡ Status.Memory → sink.new ≡ sink.old }
     ensures read_whole { HasRun result → IsAtEnd (R.left source.new) }
@@ -144,7 +147,8 @@ pub fn retime<R: Source, W: Sink>(
         → (turn : ℕ) × WritesUnsteady (words_of words.now) turn (W.written sink.old) (W.written sink.new) }
 
     // What the call keeps, over every source and sink (`Keeps` in `sdh_shell/specs/Kept`): each fault has its cause, what
-    // isn't asked for stays as it was, and with digits, at most 1,048,576 bytes and no call that fails all is done.
+    // isn't asked for stays as it was, and with digits, at most 1,048,576 bytes and no call that fails all is done. What
+    // was written is said of the ending of which it is said how many reads failed.
     ensures kept { (how : Status) × (result ≡ number_of how) × KeepsRetiming (words_of words.now)
         (seen_around R.faults R.exact R.left source.old source.new) (seen_around W.faults W.exact W.written sink.old sink.new) how }
 {

@@ -13,7 +13,6 @@ use Rattle.sdh_plan.specs.declared.step.Step.{Step}
 use Rattle.sdh_plan.specs.declared.step.Step.TheVariants as step
 use Rattle.sdh_status.specs.declared.Status.{Status}
 use Rattle.sdh_status.specs.declared.Status.TheVariants as status
-use Rattle.sdh_outside.proofs.Pieces.{fewer_behind}
 use Rattle.sdh_scripts.specs.Walks.{Walk}
 use Rattle.sdh_scripts.specs.Scripts.{Breaks, Runs}
 use Rattle.sdh_scripts.specs.Texts.{room_for, HasRoom, Went, WritesLast, StopsAt, FailsAt, Lists, WriteFailed}
@@ -204,9 +203,14 @@ module _ {N T : Type 0} (walk : Walk N T) (limit : ℕ) (text_of begun_of : T �
           reports = x.reports;
           mid = mid;
           went = went_to walk limit text_of (take i steps) number w mid old text x;
-          text = y.text;
-          was = subst (λ k. WasToWrite walk limit (k + 1) text_of begun_of mid y.text left) counted y.was;
-          front = fewer_behind old text new (flat_map text_of x.reports) y.text x.text y.front;
+          first = y.first;
+          last = y.last;
+          was = subst (λ k. WasToWrite walk limit (k + 1) text_of begun_of mid y.first y.last left) counted y.was;
+          front = (
+            y.front.0,
+            Appends-trans old text y.front.0 (flat_map text_of x.reports) y.first x.text y.front.1,
+            y.front.2,
+          );
         }
 
 -- ---- where nothing is written of a settle step that didn't end

@@ -10,7 +10,7 @@ use Rattle.sdh_status.specs.declared.Status.{Status}
 use Rattle.sdh_status.specs.declared.Status.TheVariants as status
 use Rattle.sdh_scripts.specs.Walks.{Walk}
 use Rattle.sdh_scripts.specs.Scripts.{Ended, Refuses, Runs}
-use Rattle.sdh_scripts.specs.Tellers.{Begun}
+use Rattle.sdh_scripts.specs.Tellers.{Begun, OneMore}
 use Rattle.sdh_scripts.specs.Texts.{Stopped}
 
 -- the plant made no fibres, and nothing ran
@@ -54,15 +54,17 @@ pub record StoppedTold {N T : Type 0} (walk : Walk N T) (limit : ℕ) (steps : L
   pub went : Runs walk limit 0 gone w reports status.Ok mid
   pub last : LastTold walk limit (length reports) stops mid begun end left
 
--- A write failed in a settle step, and nothing more was run. This was to be reported: `ended` of the settle steps that
--- ended, and `begun` of the rounds of that step where it hadn't ended.
-pub record CutTold {N T : Type 0} (walk : Walk N T) (limit : ℕ) (steps : List Step) (w : World N) (ended begun : List T)
+-- A write failed in a settle step, and nothing more was run. This had been reported: `done` of the settle steps before it,
+-- and `shown` of its rounds. This was to be reported then: `ended` of the settle steps that ended, and `begun` of the rounds
+-- of that step where it hadn't ended. Of its rounds `shown` is without the one that ran last, or it has all where the step
+-- ended.
+pub record CutTold {N T : Type 0} (walk : Walk N T) (limit : ℕ) (steps : List Step) (w : World N) (done shown ended begun : List T)
     (left : World N) : Type 0 where
   pub gone : List Step
   pub later : List Step
   pub steps_are : steps ≡ gone ++ step.Settle ∷ later
-  pub reports : List T
   pub mid : World N
-  pub went : Runs walk limit 0 gone w reports status.Ok mid
-  pub was : ((x : Begun walk limit (length reports + 1) (λ told. []) mid [] left) × (ended ≡ reports) × (begun ≡ x.told ∷ []))
-      ⊎ ((told : T) × Ended walk limit (length reports + 1) mid told left × (ended ≡ reports ++ told ∷ []) × (begun ≡ []))
+  pub went : Runs walk limit 0 gone w done status.Ok mid
+  pub was : ((before : T) × (told : T) × OneMore walk limit (length done + 1) mid before told left × (shown ≡ before ∷ []) × (ended ≡ done)
+      × (begun ≡ told ∷ []))
+      ⊎ ((told : T) × Ended walk limit (length done + 1) mid told left × (shown ≡ told ∷ []) × (ended ≡ done ++ told ∷ []) × (begun ≡ []))

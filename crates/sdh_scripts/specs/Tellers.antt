@@ -1,5 +1,5 @@
 -- What a settle step comes to, if its report is written while its rounds run.
-use Rattle.std.specs.Prelude.{ℕ, ◌≡◌, ◌⊎◌, ◌<◌, ◌≤◌, List, ◌++◌, length, Option}
+use Rattle.std.specs.Prelude.{ℕ, suc, ◌≡◌, ◌⊎◌, ◌<◌, ◌≤◌, List, ◌++◌, length, take, Option}
 use Rattle.std.specs.Io.KnownBytes.{Appends}
 use Rattle.sdh_outside.specs.Writing.{AppendsFewer}
 use Rattle.sdh_plant.specs.Fibres.{Arrival}
@@ -67,17 +67,35 @@ ended_by Unsettled number = status.Unsettled number
 ended_by PlantFault number = status.PlantFault
 ended_by WriteFault number = status.WriteFault
 
--- what was to be written where a write failed: the text of the rounds that ran so far, or that of the step, which ended
-abbrev pub WasToWrite : {N T : Type 0} → Walk N T → ℕ → ℕ → (T → List ℕ) → (T → List ℕ) → World N → List ℕ → World N → Type 0
-WasToWrite {T = T} walk limit number text_of begun_of w text left =
-    Begun walk limit number begun_of w text left ⊎ ((told : T) × Ended walk limit number w told left × (text ≡ text_of told))
+-- One more round of a settle step ran, or of the rounds after it, and no other: `told` is reported with it, and `before`
+-- without it.
+abbrev pub OneMore : {N T : Type 0} → Walk N T → ℕ → ℕ → World N → T → T → World N → Type 0
+OneMore walk limit number w before told left =
+    ((x : InStep walk limit number w told left) × (j : ℕ) × (length x.rounds ≡ suc j)
+    × (before ≡ walk.tells number (course_with walk.station x.rounds w) j))
+    ⊎ ((x : BehindStep walk limit number w told left) × (j : ℕ) × (length x.rounds ≡ suc j)
+    × (before ≡ walk.tells number (course_with walk.station (x.settles.rounds ++ take j x.rounds) w) (length x.settles.rounds)))
 
--- what was written of a settle step that didn't end: the text of its rounds so far, which are all that ran where it was
--- unsettled; or, where a write failed, the first bytes of what was to be written
+-- What was to be written where a write failed: `first` before, and `last` then. It is the text of the rounds before the
+-- one that ran last, and then what that round adds; or, where the step ended, the text of all its rounds, and then the
+-- rest of the step's.
+abbrev pub WasToWrite : {N T : Type 0} → Walk N T → ℕ → ℕ → (T → List ℕ) → (T → List ℕ) → World N → List ℕ → List ℕ → World N → Type 0
+WasToWrite {T = T} walk limit number text_of begun_of w first last left =
+    ((before : T) × (told : T) × OneMore walk limit number w before told left × (first ≡ begun_of before) × (first ++ last ≡ begun_of told))
+    ⊎ ((told : T) × Ended walk limit number w told left × (first ≡ begun_of told) × (first ++ last ≡ text_of told))
+
+-- a write failed in the second of two texts: all of the first one was written, and of that only a beginning, shorter
+-- than it
+abbrev pub CutIn : Option (List ℕ) → Option (List ℕ) → List ℕ → List ℕ → Type 0
+CutIn old new first last = (mid : Option (List ℕ)) × Appends old mid first × AppendsFewer mid new last
+
+-- What was written of a settle step that didn't end: the text of its rounds so far, which are all that ran where it was
+-- unsettled. Where a write failed, it is all that was to be written before, and the first bytes of what was to be written
+-- then.
 abbrev pub WroteBegun : {N T : Type 0} → Walk N T → ℕ → ℕ → (T → List ℕ) → (T → List ℕ) → World N → StepError → World N
     → Option (List ℕ) → Option (List ℕ) → Type 0
 WroteBegun walk limit number text_of begun_of w WriteFault left old new =
-    (text : List ℕ) × WasToWrite walk limit number text_of begun_of w text left × AppendsFewer old new text
+    (first : List ℕ) × (last : List ℕ) × WasToWrite walk limit number text_of begun_of w first last left × CutIn old new first last
 WroteBegun walk limit number text_of begun_of w Unsettled left old new =
     (text : List ℕ) × (x : Begun walk limit number begun_of w text left) × (left ≡ x.mid) × Appends old new text
 WroteBegun walk limit number text_of begun_of w PlantFault left old new =

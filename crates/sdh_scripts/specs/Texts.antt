@@ -2,7 +2,6 @@
 use Rattle.std.specs.Prelude.{ℕ, ◌≡◌, ◌≢◌, ◌⊎◌, ◌+◌, ◌-◌, ◌*◌, ◌≤◌, List, [], ◌∷◌, ◌++◌, length, Option}
 use Rattle.std.specs.List.{flat_map}
 use Rattle.std.specs.Io.KnownBytes.{Appends}
-use Rattle.sdh_outside.specs.Writing.{AppendsFewer}
 use Rattle.sdh_rounds.specs.Held.{World}
 use Rattle.sdh_plan.specs.declared.step.Step.{Step}
 use Rattle.sdh_plan.specs.declared.step.Step.TheVariants as step
@@ -10,7 +9,7 @@ use Rattle.sdh_status.specs.declared.Status.{Status}
 use Rattle.sdh_status.specs.declared.Status.TheVariants as status
 use Rattle.sdh_scripts.specs.Walks.{Walk}
 use Rattle.sdh_scripts.specs.Scripts.{Refuses, Runs}
-use Rattle.sdh_scripts.specs.Tellers.{Begun, WasToWrite}
+use Rattle.sdh_scripts.specs.Tellers.{Begun, WasToWrite, CutIn}
 
 -- room enough, in bytes, once `before` of at most 64 settle steps have ended: `each` for each settle step that is left,
 -- and 96 for a last line
@@ -50,13 +49,14 @@ pub record StopsAt {N T : Type 0} (walk : Walk N T) (limit : ℕ) (begun_of : T 
   pub writes : WritesLast walk limit begun_of before s w tail end left
   pub text : Appends old new tail
 
--- a write failed in this settle step, and only the first bytes of what was to be written of it were written
+-- a write failed in this settle step: of what was to be written of it, all before the last part was written
 pub record FailsAt {N T : Type 0} (walk : Walk N T) (limit : ℕ) (text_of begun_of : T → List ℕ) (before : ℕ) (s : Step) (w : World N)
     (old new : Option (List ℕ)) (left : World N) : Type 0 where
   pub settles : s ≡ step.Settle
-  pub text : List ℕ
-  pub was : WasToWrite walk limit (before + 1) text_of begun_of w text left
-  pub front : AppendsFewer old new text
+  pub first : List ℕ
+  pub last : List ℕ
+  pub was : WasToWrite walk limit (before + 1) text_of begun_of w first last left
+  pub front : CutIn old new first last
 
 -- ---- a script
 
@@ -81,8 +81,8 @@ pub record Lists {N T : Type 0} (walk : Walk N T) (limit : ℕ) (text_of begun_o
   pub tail_is : ((end ≡ status.Ok) × (tail ≡ [])) ⊎ Stopped walk limit begun_of steps w reports tail end left
   pub text : Appends old new (flat_map text_of reports ++ tail)
 
--- A write failed in one of these steps, a settle step, and nothing more was run. Only the first bytes were written of
--- what was to be written: the reports of the settle steps before, and the text of that step.
+-- A write failed in one of these steps, a settle step, and nothing more was run. The reports of the settle steps before
+-- were written, and of that step's text all before the last part, of which only the first bytes were.
 pub record WriteFailed {N T : Type 0} (walk : Walk N T) (limit : ℕ) (text_of begun_of : T → List ℕ) (steps : List Step) (w : World N)
     (old new : Option (List ℕ)) (left : World N) : Type 0 where
   pub gone : List Step
@@ -91,6 +91,7 @@ pub record WriteFailed {N T : Type 0} (walk : Walk N T) (limit : ℕ) (text_of b
   pub reports : List T
   pub mid : World N
   pub went : Runs walk limit 0 gone w reports status.Ok mid
-  pub text : List ℕ
-  pub was : WasToWrite walk limit (length reports + 1) text_of begun_of mid text left
-  pub front : AppendsFewer old new (flat_map text_of reports ++ text)
+  pub first : List ℕ
+  pub last : List ℕ
+  pub was : WasToWrite walk limit (length reports + 1) text_of begun_of mid first last left
+  pub front : CutIn old new (flat_map text_of reports ++ first) last

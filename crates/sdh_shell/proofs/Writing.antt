@@ -1,12 +1,13 @@
 -- What is written, where the source shows its bytes.
-use Rattle.std.proofs.Common.{◌≡◌, ℕ, Bool, true, List, sym, subst}
+use Rattle.std.proofs.Common.{◌≡◌, ℕ, Bool, true, List, take, sym, subst, inl, inr}
 use Rattle.std.specs.Prelude.{Option, IfSome, Result, Ok, Err, IsErr, OnOk, OnErr}
 use Rattle.std.specs.Io.KnownBytes.{Appends}
+use Rattle.std.proofs.KnownBytes.{Appends-trans}
 use Rattle.std.proofs.lemmas.Bool.{false≢true}
 use Rattle.sdh_outside.specs.Writing.{AppendsFewer, Wrote}
 use Rattle.sdh_shell.specs.Endings.{Endings}
 use Rattle.sdh_shell.specs.Failing.{Counts, EndsWithCause}
-use Rattle.sdh_shell.specs.Writing.{Telling, Whole, WritesAs, WritesWith, IsShown}
+use Rattle.sdh_shell.specs.Writing.{Telling, Whole, WritesAs, WritesWith, IsShown, alone, AppendsUpTo, WroteEnding, WroteParts}
 use Rattle.sdh_shell.proofs.Told.{told_all}
 
 -- the text of an outcome was written whole
@@ -45,3 +46,23 @@ module _ {T E : Type 0} (exact : Bool) (old new : Option (List ℕ)) (before aft
     where
       not_err : (x : T) → IsErr {T = T} {E = E} (Ok x) → ⊥
       not_err x h = false≢true h
+
+-- ---- a text in two parts
+
+-- a write failed in what came after a text that was written
+pub up_to : (old mid new : Option (List ℕ)) (first last : List ℕ) → Appends old mid first → AppendsFewer mid new last
+    → AppendsUpTo old new (record { first = first; last = last })
+up_to old mid new first last before (n, few, front) = (n, few, Appends-trans old mid new first (take n last) before front)
+
+module _ {E : Type 0} (endings : Endings E) where
+  -- the last part of a text was to be written, after all that comes before it
+  pub wrote_after : (how end : E) (first last : List ℕ) (old mid new : Option (List ℕ)) → Appends old mid first
+      → WroteEnding endings how last end mid new → WroteParts endings how (record { first = first; last = last }) end old new
+  wrote_after how end first last old mid new before (inl x) = inl (x.0, Appends-trans old mid new first last before x.1)
+  wrote_after how end first last old mid new before (inr x) = inr (x.0, up_to old mid new first last before x.1)
+
+  -- a text was to be written in one go
+  pub wrote_alone : (how end : E) (text : List ℕ) (old new : Option (List ℕ)) → WroteEnding endings how text end old new
+      → WroteParts endings how (alone text) end old new
+  wrote_alone how end text old new (inl x) = inl x
+  wrote_alone how end text old new (inr x) = inr x

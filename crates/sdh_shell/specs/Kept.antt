@@ -1,10 +1,10 @@
 -- What every call of a program keeps, whatever its source, its sink and its plant are.
-use Rattle.std.specs.Prelude.{◌≡◌, ◌⊎◌, ◌≤◌, ℕ, Bool, List, Option}
+use Rattle.std.specs.Prelude.{◌≡◌, ◌⊎◌, ◌≤◌, ℕ, Bool, List, Option, Some}
 use Rattle.std.specs.Io.KnownBytes.{IsAtEnd}
 use Rattle.sdh_basics.specs.Causes.{IsCounted}
 use Rattle.sdh_status.specs.declared.Status.TheVariants as status
 use Rattle.sdh_shell.specs.Endings.{Endings}
-use Rattle.sdh_shell.specs.Failing.{Counts, HaveFailed, CameOfSource}
+use Rattle.sdh_shell.specs.Failing.{Counts, HaveFailed, CameOfSource, plan_max}
 
 -- what is seen of a source, a sink or a plant in a call
 pub record Around (S V : Type 0) : Type 0 where
@@ -40,9 +40,11 @@ IsLater x = x.faults x.before ≤ x.faults x.after
 abbrev pub IsCountedBy : {S V : Type 0} → Type 0 → Around S V → Type 0
 IsCountedBy Fault x = IsCounted x.exact Fault (x.faults x.before) (x.faults x.after)
 
--- the endings that every program has, and those with which all that was asked for is done
+-- the endings that every program has, those with which all that was asked for is done, and the most bytes that it
+-- accepts from its source, if there is a most
 pub record Common (E : Type 0) : Type 1 where
   pub IsDone : E → Type 0
+  pub most : Option ℕ
   pub usage : E
   pub read_fault : E
   pub too_long : E
@@ -52,6 +54,7 @@ pub record Common (E : Type 0) : Type 1 where
 abbrev pub common_of : {E : Type 0} → Endings E → Common E
 common_of endings = record {
   IsDone = λ end. end ≡ endings.of status.Ok;
+  most = Some plan_max;
   usage = endings.of status.Usage;
   read_fault = endings.of status.ReadFault;
   too_long = endings.of status.TooLong;
@@ -69,8 +72,9 @@ pub record Keeps {E S W : Type 0} (common : Common E) (Unasked Unread Given : Ty
   pub ended : (end ≡ how) ⊎ (end ≡ common.write_fault)
   pub says : Says how
   -- Where the source's count is exact, its calls that failed are reported by a read fault, and none is tried again.
-  -- With TooLong one byte more was taken from the source than the program accepts.
-  pub came : CameOfSource source.exact (counts_of source) (source.shows source.before) (source.shows source.after)
+  -- `TooLong` was to be reported exactly where one byte more was taken from the source than the program accepts, and then
+  -- nothing was read after it.
+  pub came : CameOfSource common.most source.exact (counts_of source) (source.shows source.before) (source.shows source.after)
       (how ≡ common.read_fault) (how ≡ common.too_long)
   pub usage : end ≡ common.usage → Unasked
   pub usage_only : Unasked → (end ≡ common.usage) ⊎ ((end ≡ common.write_fault) ⊎ (end ≡ common.memory))

@@ -1,16 +1,36 @@
 -- What is written with each ending of a program's call.
-use Rattle.std.specs.Prelude.{◌≡◌, ◌⊎◌, ℕ, List, Option, Some, None}
+use Rattle.std.specs.Prelude.{◌≡◌, ◌⊎◌, ◌<◌, ℕ, List, [], ◌++◌, length, take, Option, Some, None}
 use Rattle.std.specs.Io.KnownBytes.{Appends, Keeps}
 use Rattle.sdh_outside.specs.Writing.{AppendsFewer}
 use Rattle.sdh_status.specs.declared.Status.{Status}
 use Rattle.sdh_status.specs.declared.Status.TheVariants as status
 use Rattle.sdh_shell.specs.Endings.{Endings}
 
+-- ---- a text in two parts
+
+-- A text that is written as it comes: all that is written before the last of it, and the last, which is written in one
+-- go.
+pub record Parts : Type 0 where
+  pub first : List ℕ
+  pub last : List ℕ
+
+-- all of it
+abbrev pub joined : Parts → List ℕ
+joined text = text.first ++ text.last
+
+-- a text that is written in one go
+abbrev pub alone : List ℕ → Parts
+alone text = record { first = []; last = text }
+
+-- a write failed in the last part: all of the first one was written, and only a beginning of the last, shorter than it
+abbrev pub AppendsUpTo : Option (List ℕ) → Option (List ℕ) → Parts → Type 0
+AppendsUpTo old new text = (n : ℕ) × (n < length text.last) × Appends old new (text.first ++ take n text.last)
+
 -- ---- an outcome
 
 -- this line is all of the text, and the fibres are left alone
-abbrev pub Says : {F : Type 0} → List ℕ → List ℕ → F → F → Type 0
-Says line text f left = (text ≡ line) × (left ≡ f)
+abbrev pub Says : {F : Type 0} → List ℕ → Parts → F → F → Type 0
+Says line text f left = (text ≡ alone line) × (left ≡ f)
 
 -- how much of an outcome's text goes with an ending: the whole text; only a beginning of it, where a write failed; or
 -- nothing, where memory ran out
@@ -55,15 +75,17 @@ IsShown endings how = telling_in endings how ≡ Whole
 
 -- ---- a text that is written as it comes
 
--- What was written is as `WritesAs` says; or a write failed before it was known how the call would end, and `cut` holds
+-- What was written of a text that is written as it comes, where `may` says which endings go with which texts. It is the
+-- whole text of the outcome; or nothing, where memory ran out. Where a write failed in the last part of the text of an
+-- outcome, all before that part was written. Where one failed before it was known how the call would end, `cut` holds
 -- of what was written.
-abbrev pub TellsAs : {S : Type 0} → Telling → (S → List ℕ → Type 0) → Type 0 → S → Option (List ℕ) → Option (List ℕ) → Type 0
-TellsAs Front may cut how old new = WritesAs Front may how old new ⊎ cut
-TellsAs Nothing may cut how old new = WritesAs Nothing may how old new
-TellsAs Whole may cut how old new = WritesAs Whole may how old new
+abbrev pub TellsAs : {S : Type 0} → Telling → (S → Parts → Type 0) → Type 0 → S → Option (List ℕ) → Option (List ℕ) → Type 0
+TellsAs {S} Front may cut how old new = ((told : S) × (text : Parts) × may told text × AppendsUpTo old new text) ⊎ cut
+TellsAs Nothing may cut how old new = Keeps old new
+TellsAs Whole may cut how old new = (text : Parts) × may how text × Appends old new (joined text)
 
 -- what was written when this ending was returned
-abbrev pub TellsWith : {E : Type 0} → Endings E → (E → List ℕ → Type 0) → Type 0 → E → Option (List ℕ) → Option (List ℕ) → Type 0
+abbrev pub TellsWith : {E : Type 0} → Endings E → (E → Parts → Type 0) → Type 0 → E → Option (List ℕ) → Option (List ℕ) → Type 0
 TellsWith endings may cut how old new = TellsAs (telling_in endings how) may cut how old new
 
 -- An ending was to be returned, with a text. It was, and all of the text was written; or a write failed, and only a
@@ -71,3 +93,8 @@ TellsWith endings may cut how old new = TellsAs (telling_in endings how) may cut
 abbrev pub WroteEnding : {E : Type 0} → Endings E → E → List ℕ → E → Option (List ℕ) → Option (List ℕ) → Type 0
 WroteEnding endings how text end old new =
     ((end ≡ how) × Appends old new text) ⊎ ((end ≡ endings.of status.WriteFault) × AppendsFewer old new text)
+
+-- The same of a text that is written as it comes: where a write failed, it failed in the last part.
+abbrev pub WroteParts : {E : Type 0} → Endings E → E → Parts → E → Option (List ℕ) → Option (List ℕ) → Type 0
+WroteParts endings how text end old new =
+    ((end ≡ how) × Appends old new (joined text)) ⊎ ((end ≡ endings.of status.WriteFault) × AppendsUpTo old new text)

@@ -2,7 +2,7 @@
 ghost use Rattle.std.specs.Prelude.{◌≡◌, ◌⊎◌, ◌≤◌, Ok, Err, IfOk, IfErr, OnOk, IsOk, IfSome};
 ghost use Rattle.std.specs.Io.KnownBytes.{IsAtEnd};
 ghost use Rattle.sdh_basics.specs.Causes.{Rose, IsCounted};
-ghost use Rattle.sdh_outside.specs.Reading.{TakesCount};
+ghost use Rattle.sdh_shell.specs.Failing.{TakesAtMost};
 ghost use Rattle.sdh_shell.specs.Reading.{TellsPlan, IsWhyNone, IsRefusal, HasPlan};
 
 use sdh_outside::{ReadAllError, Source, read_all};
@@ -26,7 +26,7 @@ pub fn plan_in<R: Source>(alloc: Global, source: &mut R) -> Result<Plan, NoPlan>
     ensures refused { IfErr result (λ why. IfSome (R.left source.old) (λ bytes. IsWhyNone bytes why)) }
     ensures kind { IfErr result IsRefusal }
     ensures fault { result ≡ Err (NoPlan.Refused Status.ReadFault) → Rose (R.faults source.old) (R.faults source.new) }
-    ensures too_long { result ≡ Err (NoPlan.Refused Status.TooLong) → TakesCount (R.left source.old) (R.left source.new) 1048577 }
+    ensures taken { TakesAtMost 1048576 (R.left source.old) (R.left source.new) (result ≡ Err (NoPlan.Refused Status.TooLong)) }
 
     // Where the source shows the bytes of a plan and no read fails, the plan is returned, or memory ran out.
     ensures complete { HasPlan (R.left source.old) → ¬ (Rose (R.faults source.old) (R.faults source.new))

@@ -8,7 +8,7 @@ ghost use Rattle.sdh_sncp_cli.specs.declared.ending.Ending.{Ending};
 ghost use Rattle.sdh_sncp_cli.specs.Outcome.{Answers, told};
 ghost use Rattle.sdh_sncp_cli.specs.Headline.{Delivers, EndsAsItRuns, AlwaysSettles};
 ghost use Rattle.sdh_shell.specs.Kept.{seen_around};
-ghost use Rattle.sdh_programs.specs.Calls.{KeepsCall, never_cut};
+ghost use Rattle.sdh_programs.specs.Calls.{AtOnce, KeepsCall};
 ghost use Rattle.sdh_shell.specs.Calls.{asked_to_run};
 ghost use Rattle.sdh_sncp_cli.specs.Outcome.{pathing};
 
@@ -51,7 +51,7 @@ pub fn sdhpath<R: Source, W: Sink, P: Plant>(
     // What the call keeps, over every source, sink and plant (`KeepsAll` in `sdh_shell/specs/Kept`): each fault has its
     // cause, what isn't asked for stays as it was, and where all that a run needs is given, and no call fails, all is
     // done.
-    ensures kept { (how : Ending) × (result ≡ number_of how) × KeepsCall pathing never_cut (asked_to_run (words_of words.now))
+    ensures kept { (how : Ending) × (result ≡ number_of how) × KeepsCall pathing AtOnce (asked_to_run (words_of words.now))
         (seen_around R.faults R.exact R.left source.old source.new)
         (seen_around W.faults W.exact W.written sink.old sink.new) (seen_around P.faults P.exact P.fibres plant.old plant.new) how }
 {

@@ -11,3 +11,4 @@ pub mod Reading
 pub mod Severe
 pub mod Truth
 pub mod Listed
+pub mod Kept

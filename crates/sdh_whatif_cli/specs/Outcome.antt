@@ -2,7 +2,6 @@
 use Rattle.std.specs.Prelude.{◌≡◌, ◌≢◌, ◌⊎◌, ◌↔◌, ℕ, Bool, List, [], Option, Some, None, Result, IfSome, codes}
 use Rattle.std.specs.Io.KnownBytes.{IsAtEnd}
 use Rattle.sdh_basics.specs.Causes.{Rose, IsCounted}
-use Rattle.sdh_outside.specs.Reading.{TakesCount}
 use Rattle.sdh_plan.specs.Reasons.{reason_number}
 use Rattle.sdh_plan.specs.declared.reason.Reason.TheVariants as reason
 use Rattle.sdh_plan.specs.Planned.{Planned}
@@ -10,7 +9,11 @@ use Rattle.sdh_status.specs.declared.Status.{Status}
 use Rattle.sdh_status.specs.declared.Status.TheVariants as status
 use Rattle.sdh_report.specs.Lines.{own_line}
 use Rattle.sdh_report.specs.Statuses.{last_line}
+use Rattle.sdh_shell.specs.Endings.{statuses}
+use Rattle.sdh_shell.specs.Failing.{plan_max, TakesAtMost}
+use Rattle.sdh_shell.specs.Kept.{Around, common_of, Keeps}
 use Rattle.sdh_shell.specs.Reading.{HasNoPlan, TellsPlan}
+use Rattle.sdh_shell.specs.Writing.{WroteEnding}
 use Rattle.sdh_outside.specs.Writing.{Wrote}
 use Rattle.sdh_whatif_cli.specs.declared.ask.Ask.{Ask}
 use Rattle.sdh_whatif_cli.specs.Lines.{table_text}
@@ -79,9 +82,25 @@ pub record CasesEnded {T E : Type 0} (ask : Option Ask) (texts : List (List ℕ)
   pub wrote : Wrote seen.writes_exact seen.written seen.written_after seen.writes seen.writes_after text put
   pub fault : how ≡ status.ReadFault → Rose seen.reads seen.reads_after
   pub reads : IsCounted seen.reads_exact (how ≡ status.ReadFault) seen.reads seen.reads_after
-  pub too_long : how ≡ status.TooLong → TakesCount seen.left seen.left_after 1048577
+  pub taken : TakesAtMost plan_max seen.left seen.left_after (how ≡ status.TooLong)
   pub usage : how ≡ status.Usage ↔ (ask ≡ None)
   pub own : (how ≢ status.WriteFault) × (how ≢ status.Memory)
   pub read : how ≡ status.Ok → IsAtEnd seen.left_after
   -- where something is asked for, the plan's ring has the user's own failures and no read failed, it ended with `Ok`
   pub complete : ask ≢ None → HasPlanFor texts seen.left → ¬ (Rose seen.reads seen.reads_after) → how ≡ status.Ok
+
+-- ---- what a call keeps
+
+-- What is said of the status `how`, which was to be reported, where the call returned `end`. A text that goes with it was
+-- to be written, and was, or a write failed and only a beginning of the text was written; or memory ran out.
+abbrev pub CasesSay : Option Ask → List (List ℕ) → Option (List ℕ) → Status → Option (List ℕ) → Option (List ℕ) → Status → Type 0
+CasesSay ask texts left end old new how =
+    ((text : List ℕ) × IfSome (told ask left) (λ bytes. IsOutcome ask texts bytes how text) × WroteEnding statuses how text end old new)
+    ⊎ ((how ≡ end) × (end ≡ status.Memory))
+
+-- What a call keeps of its source and its sink. Where its words ask for something, the plan's ring has the user's own
+-- failures and no call fails, everything is written, or memory runs out.
+abbrev pub KeepsCases : {R W : Type 0} → Option Ask → List (List ℕ) → Around R (Option (List ℕ)) → Around W (Option (List ℕ)) → Status → Type 0
+KeepsCases ask texts source sink end =
+    Keeps (common_of statuses) (ask ≡ None) (ask ≡ None) ((ask ≢ None) × HasPlanFor texts (source.shows source.before))
+    (CasesSay ask texts (source.shows source.before) end (sink.shows sink.before) (sink.shows sink.after)) source sink end

@@ -1,14 +1,14 @@
 //! The program's call.
-ghost use Rattle.std.specs.Prelude.{◌≡◌, ◌≢◌, ◌⊎◌, ◌≤◌, ℕ, [], true, Some, None, IfOk, OnErr, IfSome};
-ghost use Rattle.std.specs.Io.KnownBytes.{IsAtEnd};
-ghost use Rattle.sdh_basics.specs.Causes.{Rose, IsCounted};
-ghost use Rattle.sdh_outside.specs.Reading.{TakesCount};
+ghost use Rattle.std.specs.Prelude.{◌≡◌, ◌⊎◌, ◌+◌, ◌≤◌, ℕ, [], true, Some, None, IfOk, OnErr, IfSome};
+ghost use Rattle.sdh_outside.specs.Reading.{TakesFewer};
+ghost use Rattle.sdh_shell.specs.Failing.{plan_max};
+ghost use Rattle.sdh_shell.specs.Kept.{seen_around};
 ghost use Rattle.sdh_shell.specs.Writing.{Writes};
 ghost use Rattle.sdh_outside.specs.Writing.{Wrote};
 ghost use Rattle.sdh_shell.specs.Calls.{words_of};
 ghost use Rattle.sdh_whatif_cli.specs.Words.{asked, own_texts, IsPart};
 ghost use Rattle.sdh_whatif_cli.specs.Laws.{LinesAreTrue};
-ghost use Rattle.sdh_whatif_cli.specs.Outcome.{refusal, of_plan, IsOutcome, HasPlanFor, told, SeenOfCall, CasesEnded};
+ghost use Rattle.sdh_whatif_cli.specs.Outcome.{refusal, of_plan, IsOutcome, told, SeenOfCall, CasesEnded, KeepsCases};
 
 use crate::ask::{Ask, asked};
 use crate::laws::lines_are_true;
@@ -143,6 +143,7 @@ fn answer_ask<R: Source, W: Sink>(
     } in CasesEnded (Some ask) (own_texts (words_of words.now)) seen x.status x.wrote) }
     ensures later { R.faults source.old ≤ R.faults source.new }
     ensures memory { OnErr result ((R.exact ≡ true → R.faults source.new ≡ R.faults source.old) × (sink.new ≡ sink.old)) }
+    ensures few { OnErr result (TakesFewer (R.left source.old) (R.left source.new) (plan_max + 1)) }
 {
     let text = Text::try_new(alloc, LINE_MAX)?;
     match plan_in(alloc, source) {
@@ -174,6 +175,7 @@ fn answer<R: Source, W: Sink>(
     ensures unread { asked (words_of words.now) ≡ None → source.new ≡ source.old }
     ensures later { R.faults source.old ≤ R.faults source.new }
     ensures memory { OnErr result ((R.exact ≡ true → R.faults source.new ≡ R.faults source.old) × (sink.new ≡ sink.old)) }
+    ensures few { OnErr result (TakesFewer (R.left source.old) (R.left source.new) (plan_max + 1)) }
 {
     match asked(words) {
         Some(ask) => answer_ask(alloc, ask, words, source, sink),
@@ -204,26 +206,12 @@ pub fn whatif<R: Source, W: Sink>(
     // Each line says what the last report shows if the plan is run with the line's steps after its script.
     ensures lines { LinesAreTrue }
 
-    // These clauses hold over every source and sink.
-    ensures usage { result ≡ Status.Usage → asked (words_of words.now) ≡ None }
-    ensures usage_only { asked (words_of words.now) ≡ None
-        → (result ≡ Status.Usage) ⊎ (result ≡ Status.WriteFault) ⊎ (result ≡ Status.Memory) }
-    ensures unread { asked (words_of words.now) ≡ None → source.new ≡ source.old }
-    ensures read_fault { result ≡ Status.ReadFault → Rose (R.faults source.old) (R.faults source.new) }
-    ensures write_fault { result ≡ Status.WriteFault → Rose (W.faults sink.old) (W.faults sink.new) }
-    ensures writes { IsCounted W.exact (result ≡ Status.WriteFault) (W.faults sink.old) (W.faults sink.new) }
-    ensures came { (how : Status) × ((result ≡ how) ⊎ (result ≡ Status.WriteFault))
-        × IsCounted R.exact (how ≡ Status.ReadFault) (R.faults source.old) (R.faults source.new) }
-    ensures too_long { result ≡ Status.TooLong → TakesCount (R.left source.old) (R.left source.new) 1048577 }
-    ensures memory { result ≡ Status.Memory → sink.new ≡ sink.old }
-    ensures read_whole { result ≡ Status.Ok → IsAtEnd (R.left source.new) }
-    ensures later { (R.faults source.old ≤ R.faults source.new) × (W.faults sink.old ≤ W.faults sink.new) }
-
-    // Where the words ask for something, the plan's ring has the user's own failures and no call fails, everything is
-    // written, or memory runs out.
-    ensures complete { asked (words_of words.now) ≢ None → HasPlanFor (own_texts (words_of words.now)) (R.left source.old)
-        → ¬ (Rose (R.faults source.old) (R.faults source.new)) → ¬ (Rose (W.faults sink.old) (W.faults sink.new))
-        → (result ≡ Status.Ok) ⊎ (result ≡ Status.Memory) }
+    // What the call keeps, over every source and sink (`Keeps` in `sdh_shell/specs/Kept`): each fault has its cause, what
+    // isn't asked for stays as it was, and where the words ask for something, the plan's ring has the user's own failures
+    // and no call fails, everything is written. What was written is said of the status of which it is said how many reads
+    // failed.
+    ensures kept { KeepsCases (asked (words_of words.now)) (own_texts (words_of words.now))
+        (seen_around R.faults R.exact R.left source.old source.new) (seen_around W.faults W.exact W.written sink.old sink.new) result }
 {
     lines_are_true();
     let Ok(told) = answer(alloc, words, source, sink) else {

@@ -216,6 +216,13 @@ pub(crate) fn call(alloc: Global, given: Given<'_>) -> Result<(u8, MemSink), All
     }
 }
 
+/// Returns the number of a call over fibres that record what is sent, and how many frames were sent.
+pub(crate) fn call_and_count(alloc: Global, given: Given<'_>) -> Result<(u8, usize), AllocError> {
+    let mut plant = RecordingPlant::new(2_000);
+    let (number, _) = call_over(alloc, given, &mut plant)?;
+    Ok((number, plant.sent().len()))
+}
+
 /// Returns whether a call ends so.
 pub(crate) fn ends(alloc: Global, given: Given<'_>, ending: Ending<'_>) -> bool {
     match call(alloc, given) {

@@ -19,6 +19,8 @@ mod others;
 #[cfg(test)]
 mod rows;
 #[cfg(test)]
+mod stops;
+#[cfg(test)]
 mod streams;
 #[cfg(test)]
 mod sweeps;

@@ -33,4 +33,9 @@ returns-in-Ok-Whole-clause-refused g c =
     let e = c.in-Ok-Whole in
     has_none (left c.args.source.now) (left c.read_head.new.source) c.bytes.result.now c.document_of.result.now c.in-Err-plan_of.why
     (took_head _ _ c.read_head.new.text.bytes c.bytes.result.now e.field-0 c.bytes.ensures e.field-0-is e.ensures.head)
-    c.document_of.ensures c.in-Err-plan_of.ensures.refused
+    c.document_of.ensures
+    (few_bytes c.bytes.result.now c.document_of.result.now (head_ends (left c.args.source.now) (left c.read_head.new.source) c.bytes.result.now
+    (took_head _ _ c.read_head.new.text.bytes c.bytes.result.now e.field-0 c.bytes.ensures e.field-0-is e.ensures.head))
+    c.document_of.ensures
+    (omega (arith, ap length c.bytes.ensures, c.read_head.ensures.kept, ap (λ (w : Written). w.room) c.in-Ok.ensures)))
+    c.in-Err-plan_of.ensures.refused

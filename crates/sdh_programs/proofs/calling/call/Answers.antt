@@ -1,11 +1,12 @@
 use Rattle.std.proofs.Common.{ap, refl, arith, le_refl}
 use Rattle.sdh_report.specs.Written.{Written}
 use Rattle.sdh_shell.specs.Calls.{words_of}
-use Rattle.sdh_shell.specs.Failing.{Counts}
+use Rattle.sdh_shell.specs.Failing.{Counts, plan_max}
 use Rattle.sdh_shell.specs.Kept.{seen_around}
-use Rattle.sdh_programs.specs.Calls.{seen_of, never_cut}
+use Rattle.sdh_shell.proofs.Failing.{none_taken}
+use Rattle.sdh_programs.specs.Calls.{AtOnce, seen_of}
 use Rattle.sdh_programs.proofs.AtEnd.{text_shown_by, text_answer_by}
-use Rattle.sdh_programs.proofs.Calls.{answer_tells, memory_writes, wrote_at_end, fault_as, counted_own}
+use Rattle.sdh_programs.proofs.Calls.{answer_writes, memory_writes, fault_as, counted_own}
 use Rattle.sdh_programs.proofs.Kept.{kept_answer, kept_memory}
 use Rattle.sdh_programs.proofs.calling.call.Goals as goal
 
@@ -27,12 +28,10 @@ returns-in-Ok-answer-clause-outcome g c =
     let old = g.W.Sink.written c.args.sink.now in
     let new = g.W.Sink.written c.write_ended.new.output in
     let asked = m.program.asked (words_of c.args.words.now) in
-    wrote_at_end m.program asked (g.R.Source.left c.args.source.now) (g.P.Plant.fibres c.args.plant.now) (g.P.Plant.fibres c.answer.new.plant)
-    seen.reads seen.calls c.write_ended.result old new
-    (answer_tells m.program never_cut asked seen c.write_ended.result old new
+    answer_writes m.program asked seen c.write_ended.result old new
     (text_answer_by m.program m.cut asked seen c.in-Ok-answer.ending c.in-Ok.text.bytes c.answer.new.output.bytes
     (ap (λ (t : Written). t.bytes) c.in-Ok.ensures) (λ e. let rose = c.in-Ok-answer.ensures.fault e in absurd (omega (arith, rose)))
-    c.in-Ok-answer.ensures.answer _ c.endings_agree.ensures never_cut c.write_ended.result old new c.write_ended.ensures.wrote))
+    c.in-Ok-answer.ensures.answer _ c.endings_agree.ensures c.write_ended.result old new c.write_ended.ensures.wrote)
 
 pub returns-in-Ok-answer-clause-kept : goal.returns-in-Ok-answer-clause-kept
 returns-in-Ok-answer-clause-kept g c =
@@ -43,12 +42,12 @@ returns-in-Ok-answer-clause-kept g c =
     let new = g.W.Sink.written c.write_ended.new.output in
     let asked = m.program.asked (words_of c.args.words.now) in
     let e = c.in-Ok-answer.ensures in
-    kept_answer m.program never_cut asked (seen_around g.R.Source.faults g.R.Source.exact g.R.Source.left c.args.source.now c.answer.new.source)
+    kept_answer m.program AtOnce asked (seen_around g.R.Source.faults g.R.Source.exact g.R.Source.left c.args.source.now c.answer.new.source)
     (seen_around g.W.Sink.faults g.W.Sink.exact g.W.Sink.written c.args.sink.now c.write_ended.new.output)
     (seen_around g.P.Plant.faults g.P.Plant.exact g.P.Plant.fibres c.args.plant.now c.answer.new.plant) c.write_ended.result
     (text_answer_by m.program m.cut asked seen c.in-Ok-answer.ending c.in-Ok.text.bytes c.answer.new.output.bytes
     (ap (λ (t : Written). t.bytes) c.in-Ok.ensures) (λ h. let rose = e.fault h in absurd (omega (arith, rose)))
-    e.answer _ c.endings_agree.ensures never_cut c.write_ended.result old new c.write_ended.ensures.wrote)
+    e.answer _ c.endings_agree.ensures c.write_ended.result old new c.write_ended.ensures.wrote)
     (λ h. c.write_ended.ensures.fault (fault_as m.program.endings _ c.endings_agree.ensures c.write_ended.result h))
     (counted_own m.program.endings _ c.endings_agree.ensures c.write_ended.result _ _ _ c.write_ended.ensures.writes) e.unread e.alone e.later.0
     c.write_ended.ensures.later e.later.2
@@ -70,10 +69,10 @@ returns-in_default-clause-kept g c =
     let source = c.args.source.now in
     let sink = c.args.sink.now in
     let plant = c.args.plant.now in
-    kept_memory m.program never_cut (m.program.asked (words_of c.args.words.now))
+    kept_memory m.program AtOnce (m.program.asked (words_of c.args.words.now))
     (seen_around g.R.Source.faults g.R.Source.exact g.R.Source.left source source)
     (seen_around g.W.Sink.faults g.W.Sink.exact g.W.Sink.written sink sink)
-    (seen_around g.P.Plant.faults g.P.Plant.exact g.P.Plant.fibres plant plant) c.ending_of.result c.ending_of.ensures refl (λ e. refl) (λ e. refl) refl (λ e. refl) (λ e. refl) (le_refl _) (le_refl _)
+    (seen_around g.P.Plant.faults g.P.Plant.exact g.P.Plant.fibres plant plant) c.ending_of.result c.ending_of.ensures refl (none_taken plan_max (g.R.Source.left source)) (λ e. refl) (λ e. refl) refl (λ e. refl) (λ e. refl) (le_refl _) (le_refl _)
     (le_refl _)
 
 pub returns-in-Err-clause-outcome : goal.returns-in-Err-clause-outcome
@@ -91,9 +90,9 @@ returns-in-Err-clause-kept g c =
     let e = c.in-Err.ensures in
     let m = g.M.Program in
     let sink = c.args.sink.now in
-    kept_memory m.program never_cut (m.program.asked (words_of c.args.words.now))
+    kept_memory m.program AtOnce (m.program.asked (words_of c.args.words.now))
     (seen_around g.R.Source.faults g.R.Source.exact g.R.Source.left c.args.source.now c.answer.new.source)
     (seen_around g.W.Sink.faults g.W.Sink.exact g.W.Sink.written sink sink)
     (seen_around g.P.Plant.faults g.P.Plant.exact g.P.Plant.fibres c.args.plant.now c.answer.new.plant) c.ending_of-in-Err.result
-    c.ending_of-in-Err.ensures refl e.without.0 e.without.1 e.unsent e.unread e.alone e.later.0 (le_refl _)
+    c.ending_of-in-Err.ensures refl e.few e.without.0 e.without.1 e.unsent e.unread e.alone e.later.0 (le_refl _)
     e.later.2

@@ -37,7 +37,7 @@ returns-clause-kept g c =
       record {
         how = e.came.0;
         ended = e.came.1;
-        says = tt;
+        says = e.came.3;
         came = e.came.2;
         usage = e.usage;
         usage_only = e.usage_only;

@@ -24,7 +24,7 @@ returns-in-Ok-clause-ended g c =
       wrote = wrote;
       fault = λ e. absurd (no.read e);
       reads = record { one = λ e f. absurd (no.read f); none = λ e other. c.in-Ok.ensures.counted.none e (λ f. not_err _ _ f) };
-      too_long = λ e. absurd (no.long e);
+      taken = record { one_more = λ e. absurd (no.long e); within = λ other. c.in-Ok.ensures.taken.within (λ f. not_err _ _ f) };
       usage = (λ e. absurd (no.usage e), λ e. cc);
       own = (no.write, no.memory);
       read = λ e. c.in-Ok.ensures.end;

@@ -1,11 +1,13 @@
-use Rattle.std.proofs.Common.{ℕ, List, OnErr, refl, inl, subst, arith}
+use Rattle.std.proofs.Common.{ℕ, List, OnErr, refl, inl, inr, subst}
 use Rattle.sdh_outside.specs.Writing.{AppendsFewer}
 use Rattle.sdh_status.specs.declared.Status.TheVariants as status
 use Rattle.sdh_shell.specs.Calls.{words_of}
+use Rattle.sdh_shell.specs.Kept.{seen_around}
 use Rattle.sdh_shell.specs.Writing.{Writes}
 use Rattle.sdh_shell.proofs.Told.{told_all}
 use Rattle.sdh_whatif_cli.specs.Words.{asked, own_texts}
 use Rattle.sdh_whatif_cli.specs.Outcome.{IsOutcome}
+use Rattle.sdh_whatif_cli.proofs.Kept.{kept_ended, kept_nothing}
 use Rattle.sdh_whatif_cli.proofs.top.whatif.Goals as goal
 
 -- a write failed: a front of the text was written
@@ -20,6 +22,10 @@ returns-in-Err-clause-outcome g c =
     told_all _ _ (λ (bytes : List ℕ). Writes (λ how text. is_outcome bytes how text) status.WriteFault old new)
     (λ bytes is. (c.in-Ok.told.status, ended.text, is, fewer)) ended.outcome
 
-pub returns-in_default-clause-came : goal.returns-in_default-clause-came
-returns-in_default-clause-came g c =
-    (status.Memory, inl refl, record { one = λ e f. absurd (grind arith); none = λ e other. c.in_default.ensures.memory.0 e })
+pub returns-in_default-clause-kept : goal.returns-in_default-clause-kept
+returns-in_default-clause-kept g c =
+    let none = c.in_default.ensures in
+    kept_nothing (asked (words_of c.args.words.now)) (own_texts (words_of c.args.words.now))
+    (seen_around g.R.Source.faults g.R.Source.exact g.R.Source.left c.args.source.now c.answer.new.source)
+    (seen_around g.W.Sink.faults g.W.Sink.exact g.W.Sink.written c.args.sink.now c.answer.new.sink) none.memory.0 none.memory.1 none.few
+    none.unread none.later

@@ -1,4 +1,4 @@
-use Rattle.std.proofs.Common.{◌≡◌, ℕ, ◌+◌, List, length, ap, refl, arith, le_refl}
+use Rattle.std.proofs.Common.{◌≡◌, ℕ, suc, ◌+◌, List, [], ◌∷◌, length, ap, refl, arith, le_refl}
 use Rattle.std.proofs.KnownBytes.{Appends-nil}
 use Rattle.sdh_circuits.specs.declared.PortId.{PortId}
 use Rattle.std.proofs.lemmas.Result.{err_from_is_err_and}
@@ -6,10 +6,10 @@ use Rattle.sdh_node.specs.Rings.Held.{HeldRing}
 use Rattle.sdh_node.specs.Rings.Rounds.{World, world}
 use Rattle.sdh_owed.proofs.Standing.{long_step}
 use Rattle.sdh_owed.proofs.Steps.{settled_held, settled_whole, next_by}
-use Rattle.sdh_aps_cli.specs.Frames.{frames_bytes}
+use Rattle.sdh_aps_cli.specs.Frames.{sent_last, frames_bytes}
 use Rattle.sdh_aps_cli.specs.Signalled.{Signalled}
 use Rattle.sdh_aps_cli.specs.declared.window.FrameWindow.{FrameWindow}
-use Rattle.sdh_aps_cli.proofs.Steps.{on_ok_is, not_ended, cut_some, wrote_ended}
+use Rattle.sdh_aps_cli.proofs.Steps.{on_ok_is, not_ended, cut_some, wrote_ended, frames_add}
 use Rattle.sdh_aps_cli.proofs.framing.FrameRunTeller.settle.Goals as goal
 
 pub settle_recording-requires-clause-ready : goal.settle_recording-requires-clause-ready
@@ -32,7 +32,9 @@ returns-in_default-clause-begun g c =
     let w = world c.args.self.now.ring (means c.args.plant.now) in
     let left = world c.settle_recording.new.self (means c.settle_recording.new.plant) in
     cut_some w left c.args.limit (c.args._number + 1) text text (g.W.Sink.written c.args.output.now)
-    (g.W.Sink.written c.settle_recording.new.log) _ c.in_default.ensures.stopped.ran (λ at k x. x.0)
+    (g.W.Sink.written c.settle_recording.new.log) _
+    (λ at j. frames_bytes c.args.self.now.recorder.ask (sent_last (at (suc j)) ∷ [])) c.in_default.ensures.stopped.ran
+    (frames_add c.args.self.now.recorder.ask (c.args._number + 1)) (λ at k x. x.0)
 
 pub returns-in_err-ended-clause-begun : goal.returns-in_err-ended-clause-begun
 returns-in_err-ended-clause-begun g c =

@@ -1,4 +1,4 @@
-use Rattle.std.proofs.Common.{◌≡◌, ◌+◌, length, refl, ap, sym, subst, ◌∙◌, arith, le_refl}
+use Rattle.std.proofs.Common.{◌≡◌, suc, ◌+◌, length, refl, ap, sym, subst, ◌∙◌, arith, le_refl}
 use Rattle.std.specs.Io.KnownBytes.{Appends}
 use Rattle.sdh_outside.specs.Writing.{AppendsFewer}
 use Rattle.sdh_circuits.specs.declared.PortId.{PortId}
@@ -9,9 +9,9 @@ use Rattle.sdh_owed.proofs.Standing.{long_step}
 use Rattle.sdh_owed.proofs.Steps.{settled_held, settled_whole, next_by}
 use Rattle.sdh_aps_cli.specs.Recording.{IsCut}
 use Rattle.sdh_aps_cli.proofs.Rounds.{recorded_none}
-use Rattle.sdh_aps_cli.specs.Signalled.{changes_shown_in}
+use Rattle.sdh_aps_cli.specs.Signalled.{shown_changes, changes_shown_in}
 use Rattle.sdh_aps_cli.specs.Listing.{changes_text, begun_text, ended_text}
-use Rattle.sdh_aps_cli.proofs.Steps.{on_ok_is, ids_at, not_ended, cut_some, wrote_step, cut_line, ready_as}
+use Rattle.sdh_aps_cli.proofs.Steps.{on_ok_is, ids_at, not_ended, cut_some, wrote_step, cut_line, lines_add, ready_as}
 use Rattle.sdh_aps_cli.proofs.script.SignalRunTeller.settle.Goals as goal
 
 pub begin-requires : goal.begin-requires
@@ -36,8 +36,9 @@ returns-in_default-clause-begun g c =
     let left = world c.settle_recording.new.self (means c.settle_recording.new.plant) in
     let old = g.W.Sink.written c.args.output.now in
     let new = g.W.Sink.written c.settle_recording.new.log in
-    cut_some w left c.args.limit (c.args.number + 1) (ended_text listing) (begun_text listing) old new _ c.in_default.ensures.stopped.ran
-    (λ at k x. subst (λ l. IsCut l at k old new) c.begin.ensures.listing x.0)
+    cut_some w left c.args.limit (c.args.number + 1) (ended_text listing) (begun_text listing) old new _
+    (λ at j. changes_text listing (shown_changes (at j).ring (at (suc j)).ring)) c.in_default.ensures.stopped.ran
+    (lines_add listing (c.args.number + 1)) (λ at k x. subst (λ l. IsCut l at k old new) c.begin.ensures.listing x.0)
 
 pub returns-in_err-ended-clause-begun : goal.returns-in_err-ended-clause-begun
 returns-in_err-ended-clause-begun g c =
