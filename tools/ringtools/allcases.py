@@ -12,7 +12,7 @@ from .casepage import draw_cases
 from .checks import SETTLES
 from .desktable import WHOLE, Reading, ToldProblem, merged, read_cases, words_for
 from .files import FileProblem
-from .framed import asked_of, machines_of, put_cases, run_cases, store_of
+from .framed import asked_of, judged, machines_of, put_cases, run_cases, store_of
 from .groups import named_groups
 from .inshort import FAILED_ON, tell, told_found, told_lines
 from .origin import TELLER, CannotRun, Origin, Program, program_of, sum_of
@@ -22,7 +22,6 @@ from .shown import shown
 from .tables import TableProblem
 from .told import Question, Told, case_to_run, differences, drawn, part_name
 from .toldpage import beside_page, heading, told_page
-from .verdicts import judge
 
 PARTS = {"single": 1, "double": 8, "triple": 64}  # over machines
 
@@ -67,15 +66,19 @@ def against_of(asked, told, part):
     this = cases_of_told("this plan", told)
     if name.endswith(".csv"):
         return Against(this, table_of(name))
-    other, _ = told_of(asked, subject_of(name, None, None, asked.without_script), told.table.depth, part)
-    return Against(this, cases_of_told(name, other))
+    subject = subject_of(name, None, None, asked.without_script)
+    other, _ = told_of(asked, subject, told.table.depth, part)
+    return Against(this, cases_of_told(name, other, sum_of(subject.data)))
 
 
 def table_of(name):
+    """The cases of a table, of which it is said at once that anybody may have written it."""
     try:
-        return cases_of_table(name)
+        found = cases_of_table(name)
     except (FileProblem, TableProblem) as problem:
         raise Stop(str(problem)) from None
+    say(f"{name}: a table, and it isn't known who wrote it: its rows add up, and nothing else of it was looked at")
+    return found
 
 
 def compare_tables(asked, name):
@@ -118,7 +121,7 @@ class Writing:
         """The table and the page. `checked` has the cases that were run, each with its verdict."""
         told, subject = self.told, self.subject
         found = {case.failures: differences(told, case, verdict) for case, verdict in checked}
-        known = tuple(store.answer(told.name(case)) for case, verdict in checked if verdict.answer) if store else ()
+        known = tuple(verdict.answer for _, verdict in checked if verdict.answer) if store else ()
         programs = [(self.teller, ()), *([(store.program, known)] if store else [])]
         origins = [self.origin_of(*one) for one in programs]
         told.write_csv(self.folder, self.name("csv"), self.question, found)
@@ -148,8 +151,7 @@ def run_some(asked, subject, told, chosen):
     except KeyboardInterrupt:
         raise Stop("stopped; the cases that are done are kept", INTERRUPTED) from None
     draw_cases(asked_of(asked, subject, store), cases, asked.jobs or processors())
-    verdicts = [judge(case, subject.beforehand.plan_of(case), store.text(case.name), store.answer(case.name)) for case in cases]
-    return store, list(zip(chosen, verdicts))
+    return store, list(zip(chosen, [judged(subject, store, case) for case in cases]))
 
 
 def ask_all(asked, subject):

@@ -14,7 +14,7 @@ from .fibre import read_lengths
 from .files import FileProblem, read_input
 from .origin import sum_of
 from .plan import PlanProblem, enough, read_plan, write_plan
-from .plans import stem_of
+from .plans import stem_of, tell_unnamed
 from .tables import TableProblem
 from .writing import Folder, named_folder, own_folder
 
@@ -69,6 +69,7 @@ def subject_of(name, also, works, without_script):
     try:
         data = read_input(name)
         plan = read_plan(data)
+        tell_unnamed("sdhring-whatif", name, plan)
         own = [step.text for step in plan.steps if step.word != "settle"]
         left_out = own if without_script else ()
         beforehand = read_beforehand(plan, also, works, () if without_script else plan.steps, left_out)

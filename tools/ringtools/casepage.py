@@ -73,15 +73,15 @@ def answers_page(asked, verdicts):
 def draw_case(asked, case):
     """A page with the case's drawing: of a failure the stage in which it has settled, of the works each stage."""
     store, plan = asked.store, asked.beforehand.plan_of(case)
+    answer, text = store.both(case.name)
     try:
-        report = read_report(store.text(case.name), plan)
+        report = read_report(text, plan)
     except ReportProblem:
         return
     beside = asked.interruptions.put_beside(report.settled) if asked.interruptions and case.kind == "works" else None
     seen = looks(plan, scenes(plan, [step.round for step in report.settled]), report.settled)
     drawn = WORKS_STAGES if case.kind == "works" else ("failed",)
     shown = [look for look in seen if case.stages[look.scene.number - 1] in drawn] or seen[-1:]
-    answer = store.answer(case.name)
     origin = Origin(store.program, f"{case.name}.toml", answer.plan, (answer.date,), answers=(answer,))
     title = f"{asked.title or asked.plan}: {case.words}"
     store.folder.write(f"{case.name}.html", run_page(title, plan, report, shown, origin, beside))

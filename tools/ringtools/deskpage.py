@@ -273,7 +273,8 @@ def origin_section(desk, origin):
     count = count_of(len(desk.table.cases), "case")
     words = html("<code>sdhwhatif {}</code> answered about {} of {}. {}", desk.table.depth, count, DEPTHS[desk.depth], LOOKED_UP)
     files = listing(html("<code>{}</code>, checksum <code>{}</code>", name, sum_) for name, sum_ in desk.tables)
-    rates = html("<p>{}:</p>{}", 'Groups' if desk.components is None else 'Rates and repair times', files) if desk.tables else ""
+    what = "Groups" if desk.components is None else "Rates and repair times"
+    rates = html("<p>{} are those of these files; it isn't known who wrote them:</p>{}", what, files) if desk.tables else ""
     return section("origin", "Where this comes from", html("<p>{}</p>", words), note(FROM_TABLE), note(FROM_PATHS, desk.path.room()), rates, origin_list(origin))
 
 

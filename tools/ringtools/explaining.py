@@ -11,7 +11,6 @@ from .checks import arc_of, refusals
 from .holding import held_while_passing
 from .markup import count_of
 from .files import PLAN
-from .places import PlaceProblem, read_places
 from .plan import DEEPEST, LongKey, ManyKeys, PlanProblem, enough, parsed_document, read_plan
 from .reasons import REASONS
 from .shown import shown
@@ -231,11 +230,9 @@ def text_warnings(document, source):
             yield Finding(head, place, (f"ports: {names}", "what to do: take a text of 7 or 11 letters"))
 
 
-def name_warnings(text):
-    try:
-        read_places(text.encode())
-    except PlaceProblem as problem:
-        yield Finding(f"warning: {problem}; so no names are shown")
+def name_warnings(plan):
+    if plan.unnamed:
+        yield Finding(f"warning: {plan.unnamed}; so no names are shown", None, ("what to do: let each node have a name of its own that is no number, once",))
 
 
 def hold_warnings(plan, source):
@@ -261,7 +258,7 @@ def warnings(plan, document, source):
         yield Finding("warning: there are no circuits, so a report shows no customer")
     yield from text_warnings(document, source)
     yield from hold_warnings(plan, source)
-    yield from name_warnings(source.text)
+    yield from name_warnings(plan)
 
 
 # -- the whole

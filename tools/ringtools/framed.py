@@ -21,7 +21,7 @@ from .reasons import REASONS
 from .report import ReportProblem, read_report
 from .running import Machines, processors, run_here, run_one, run_with_parallel
 from .shown import shown
-from .verdicts import SOURCE, UNSETTLED, judge, source_cells, write_table
+from .verdicts import SOURCE_OF_COUNTS, UNSETTLED, judge, source_of_counts, write_table
 
 
 @dataclass(frozen=True)
@@ -88,11 +88,11 @@ def try_nothing(store, beforehand):
         progress = Progress(1, 0)
         progress.what = "runs without a failure"
         run_here(store, ["nothing"], 1, progress)
-    answer = store.answer("nothing")
+    answer, text = store.both("nothing")
     if answer is None:
         raise KeyboardInterrupt
     try:
-        report = read_report(store.text("nothing"), read_plan(document))
+        report = read_report(text, read_plan(document))
     except ReportProblem as problem:
         raise Stop(f"{program} ended with status {answer.status}: {problem}") from None
     if report.done and not report.settled[0].nodes:
@@ -154,7 +154,7 @@ def write_answers(asked, subject, store, works, verdicts):
     print(shown(folder.path / f"table{part}.csv"), shown(folder.path / f"page{part}.html"), sep="\n")
     if works.counted:
         both = [works.counted, *([works.opening.counted] if works.opening.spans else [])]
-        write_interruptions(folder, f"outages{part}.csv", SOURCE, both, subject.plan, source_cells(works.counted.answer, told))
+        write_interruptions(folder, f"outages{part}.csv", SOURCE_OF_COUNTS, both, subject.plan, source_of_counts(works.counted.answer, told))
         print(shown(folder.path / f"outages{part}.csv"))
 
 
@@ -173,7 +173,8 @@ def ended(plan, verdicts, counted):
 
 
 def judged(subject, store, case):
-    return judge(case, subject.beforehand.plan_of(case), store.text(case.name), store.answer(case.name))
+    answer, text = store.both(case.name)
+    return judge(case, subject.beforehand.plan_of(case), text, answer)
 
 
 def run_works(store, counting, beforehand, works):

@@ -11,7 +11,7 @@ from .keeping import Service, held, kept_words, positions_in
 from .making import Asked, MakingProblem, Written, check_rate, document_of, text_of
 from .markup import count_of
 from .naming import NoNode, with_identifiers
-from .places import Places
+from .places import Places, why_no_place
 from .slots import ORDERS, Demand, Laid, Wanted, arcs_of, fitted, layout_of, loads_of, spans_of
 from .tables import SIGNS, Table, advice, read_table, spelled
 from .tables import text_of as text_in
@@ -45,9 +45,7 @@ class Circuit:
 
 
 def check_place(row, place, nodes):
-    if place.isdecimal():
-        raise row.problem(f"`place` is `{place}`, and a number alone would be read as an identifier")
-    if place and (why := why_no_name(place)):
+    if place and (why := why_no_place(place)):
         raise row.problem(f"`place` is `{place}`, and {why}")
     if place and place.casefold() in (node.place.casefold() for node in nodes):
         raise row.problem(f"the place {place} stood before")

@@ -7,7 +7,7 @@ from .cells import write_rows
 from .escaping import Markup, html
 from .failures import WORKS_STAGES
 from .fibre import Delays, delays_of, fibre_words
-from .kept import Store
+from .kept import Answer, Store
 from .markup import count_of
 from .origin import LAUNCHER, Origin
 from .plan import Circuit, Plan
@@ -33,25 +33,23 @@ class Interruptions:
     problem: str = ""
     names: tuple[str, ...] = WORKS_STAGES
     delays: Delays | None = None  # of the fibres, where their lengths are known
+    answer: Answer | None = None  # which has it
 
     @property
     def stages(self):
         return dict(zip(self.names, self.steps[self.first :]))
-
-    @property
-    def answer(self):
-        return self.store.answer(self.name)
 
     def origin(self, plan, plan_sum):
         known = (self.answer,) if self.answer else ()
         return Origin(self.store.program, plan, plan_sum, tuple(answer.date for answer in known), answers=known)
 
     def put_beside(self, settled):
-        """Gives the settle steps of the works' report what was counted of them; returns where that stands, or None."""
+        """Gives the settle steps of the works' report what was counted of them; returns where that comes from, or None."""
         if not self.steps:
             return None
         put_beside(self.steps, settled)
-        return f"outages/{self.name}.text", self.answer.text
+        program = self.store.program
+        return html("{}, {}; <code>outages/{}.text</code>, whose checksum is <code>{}</code>", program.version or "a program", program.proof, self.name, self.answer.text)
 
     def of(self, stage, circuit):
         """The longer of the outages of a circuit's two ports."""
@@ -137,15 +135,16 @@ def count_works(store, beforehand, case, text, lengths=None):
     """Has sdhoutage count what the works take. `text` is the report of the same works; the lengths of the fibres may be known."""
     count_case(store, beforehand, case)
     plan = beforehand.plan_of(case)
+    answer, counted = store.both(case.name)
     try:
-        if store.answer(case.name) is None:
+        if answer is None:
             raise ReportProblem("it was stopped")
-        steps = read_outages(store.text(case.name), plan)
+        steps = read_outages(counted, plan)
         put_beside(steps, read_report(text, plan).settled)
     except ReportProblem as problem:
-        return Interruptions(store, case.name, problem=f"{store.program.words[0]}: {problem}")
+        return Interruptions(store, case.name, problem=f"{store.program.words[0]}: {problem}", answer=answer)
     first = len(case.stages) - len(WORKS_STAGES)
-    return Interruptions(store, case.name, steps, first, delays=delays_of(lengths, plan, case.stages))
+    return Interruptions(store, case.name, steps, first, delays=delays_of(lengths, plan, case.stages), answer=answer)
 
 
 def rows(interruptions, plan, source):

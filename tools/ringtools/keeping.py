@@ -7,6 +7,7 @@ from dataclasses import dataclass, replace
 from .files import read_input
 from .markup import count_of, names
 from .moves import node_called
+from .places import PlaceProblem
 from .plan import Circuit, Plan, PlanProblem, read_plan
 from .slots import Wanted
 from .tables import Row, TableProblem
@@ -35,8 +36,10 @@ class Service:
 def read_service(file: str) -> Service:
     """Returns the plan of this file, whose circuits are to stay as they are."""
     try:
-        return Service(file, read_plan(read_input(file)))
-    except PlanProblem as problem:
+        plan = read_plan(read_input(file))
+        plan.clear_places()
+        return Service(file, plan)
+    except (PlanProblem, PlaceProblem) as problem:
         raise TableProblem(f"{file}: {problem}") from None
 
 

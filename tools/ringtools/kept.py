@@ -51,6 +51,10 @@ class Answer:
     where: str = HERE
     is_kept: bool = True
 
+    def came(self) -> str:
+        """Returns in words how this start of the tool came by it: run, kept, or either with `elsewhere`, where other machines ran it."""
+        return ("kept" if self.is_kept else "run") + (f" {ELSEWHERE}" if self.where == ELSEWHERE else "")
+
     def told(self) -> str:
         """Returns the lines of the file but the seal."""
         return "".join(f"{key} {getattr(self, key)}\n" for key in KEYS)
@@ -72,26 +76,32 @@ def read_answer(data: bytes) -> Answer | None:
 
 @dataclass
 class Store:
-    """A folder with three files of each case: .toml, .text and, written last, .answer. Only sealed answers of `program` count."""
+    """A folder with three files of each case: .toml, .text and, written last, .answer. Only sealed answers of `program` count.
+
+    The document of a case is in memory: what the program is given, what is sealed, and what a kept answer is held against
+    are these bytes. The file .toml is for people alone.
+    """
 
     folder: Folder
     program: Program
-    ran: set[str] = field(default_factory=set)  # the cases that were answered since this start
+    documents: dict[str, bytes] = field(default_factory=dict)  # of each case that is asked about
+    ran: dict[str, Answer] = field(default_factory=dict)  # what was answered since this start
 
     def put_plan(self, name: str, document: bytes) -> None:
-        """Keeps what was answered only if it was about this very plan."""
-        if self.plan(name) != document:
+        """Takes the document of a case. What was answered is kept only if it was about this very plan."""
+        self.documents[name] = document
+        if self.folder.read(f"{name}.toml", PLAN.bytes) != document:
             self.forget(name)
             self.folder.write(f"{name}.toml", document)
 
-    def plan(self, name: str) -> bytes | None:
-        """Returns the document of a case, or None."""
-        return self.folder.read(f"{name}.toml", PLAN.bytes)
+    def plan(self, name: str) -> bytes:
+        """Returns the document of a case."""
+        return self.documents[name]
 
     def forget(self, name: str) -> None:
         for kind in ("answer", "text", "html"):
             self.folder.remove(f"{name}.{kind}")
-        self.ran.discard(name)
+        self.ran.pop(name, None)
 
     def kept(self, name: str) -> Answer | None:
         """Returns the sealed answer that is kept, whichever program gave it."""
@@ -100,36 +110,41 @@ class Store:
 
     def others(self, names: Iterable[str]) -> tuple[int, int]:
         """Returns how many kept answers are another program's, and how many weren't sealed by this account. All are run again."""
-        found = [(self.folder.read(f"{name}.answer", LONGEST), self.kept(name)) for name in names]
-        other = sum(answer is not None and answer.sum != self.program.sum for _, answer in found)
-        return other, sum(data is not None and answer is None for data, answer in found)
+        read = [self.folder.read(f"{name}.answer", LONGEST) for name in names]
+        found = [data and read_answer(data) for data in read]
+        other = sum(bool(answer) and answer.sum != self.program.sum for answer in found)
+        return other, sum(data is not None and not answer for data, answer in zip(read, found))
 
-    def answer(self, name: str) -> Answer | None:
-        """Returns what this program answered about the plan as it stands, or None. What is known of the program is what is known now."""
-        answer = self.kept(name)
-        if answer is None or answer.sum != self.program.sum:
+    def found(self, name: str) -> tuple[Answer, bytes] | None:
+        """Returns what this program answered about the plan that is asked about, and its text; None where it didn't. What is known of the program is what is known now."""
+        document, answer = self.documents.get(name), self.ran.get(name) or self.kept(name)
+        text = self.folder.read(f"{name}.text", TEXT.bytes)
+        if document is None or not answer or text is None:
             return None
-        plan, text = self.plan(name), self.folder.read(f"{name}.text", TEXT.bytes)
-        if plan is None or text is None or (answer.plan, answer.text) != (sum_of(plan), sum_of(text)):
+        if (answer.sum, answer.plan, answer.text) != (self.program.sum, sum_of(document), sum_of(text)):
             return None
         known = {key: value for key, value in self.program.lines().items() if key in ("version", "proof")}
-        return replace(answer, **known, is_kept=name not in self.ran)
+        return replace(answer, **known, is_kept=name not in self.ran), text
+
+    def both(self, name: str) -> tuple[Answer | None, bytes]:
+        """Returns the answer and the text of a case, which belong together; None and no text where it isn't answered."""
+        return self.found(name) or (None, b"")
+
+    def answer(self, name: str) -> Answer | None:
+        """Returns what this program answered about a case, or None."""
+        return self.both(name)[0]
 
     def is_done(self, name: str) -> bool:
-        return self.answer(name) is not None
+        return self.found(name) is not None
 
     def text(self, name: str) -> bytes:
         """Returns the text of a case that is answered, or nothing."""
-        return (self.folder.read(f"{name}.text", TEXT.bytes) or b"") if self.is_done(name) else b""
+        return self.both(name)[1]
 
-    def status(self, name: str) -> int | None:
-        answer = self.answer(name)
-        return answer and answer.status
-
-    def put_answer(self, name: str, text: bytes, status: int, seconds: float, where: str = HERE, date: str = "") -> None:
-        """Keeps what was answered about a case, and seals it."""
+    def put_answer(self, name: str, document: bytes, text: bytes, status: int, seconds: float, where: str = HERE, date: str = "") -> None:
+        """Keeps what was answered about this document of a case, and seals it."""
         self.folder.write(f"{name}.text", text)
-        plan = sum_of(self.plan(name) or b"")
-        known = Answer(status, plan, sum_of(text), date=date or now(), seconds=round(seconds, 2), where=where, **self.program.lines())
+        more = {"date": date or now(), "seconds": round(seconds, 2), "where": where}
+        known = Answer(status, sum_of(document), sum_of(text), **more, **self.program.lines())
         self.folder.write(f"{name}.answer", known.written())
-        self.ran.add(name)
+        self.ran[name] = known

@@ -161,6 +161,11 @@ def answers_words(answers: Sequence[Answer]) -> str:
     return f"{count_of(len(answers), 'answer')}: {', '.join(words)}"
 
 
+def came_along(name: str, sum: str) -> Markup:
+    """Returns where something comes from that a file says which nobody here has run: the file's name tells nothing of that, whatever words it has."""
+    return html("it isn't known who or which program wrote this, the file <code>{}</code>, whose checksum is <code>{}</code>", name, sum)
+
+
 def terms(found: Mapping[str, object]) -> Markup:
     """Returns the terms of a list of definitions with what each is."""
     return joined(html("<dt>{}</dt><dd>{}</dd>", name, words) for name, words in found.items())

@@ -97,15 +97,16 @@ def count_opening(store: Store, beforehand: Beforehand, works: Case, lengths: Le
     if not spans:
         return Opening(plan, spans, one_sided, Interruptions(store, case.name))
     count_case(store, beforehand, case)
+    answer, text = store.both(case.name)
     try:
-        if store.answer(case.name) is None:
+        if answer is None:
             raise ReportProblem("it was stopped")
-        steps = read_outages(store.text(case.name), beforehand.plan_of(case))
+        steps = read_outages(text, beforehand.plan_of(case))
         if len(steps) != len(case.stages):
             raise ReportProblem(f"{len(steps)} of {len(case.stages)} settle steps were counted")
     except ReportProblem as problem:
         why = f"{store.program.words[0]}: {problem}"
-        return Opening(plan, spans, one_sided, Interruptions(store, case.name, problem=why))
+        return Opening(plan, spans, one_sided, Interruptions(store, case.name, problem=why, answer=answer))
     delays = delays_of(lengths, beforehand.plan_of(case), case.stages)
-    counted = Interruptions(store, case.name, steps, case.settles - 1, names=OPENING_STAGES, delays=delays)
+    counted = Interruptions(store, case.name, steps, case.settles - 1, names=OPENING_STAGES, delays=delays, answer=answer)
     return Opening(plan, spans, one_sided, counted)

@@ -58,10 +58,16 @@ class Origin:
     answers: tuple = ()  # the kept answers of which it consists, where there are such
 
 
-def file_of(word):
-    """The file that this word of a command names, if any."""
-    found = shutil.which(word) or word
-    return Path(found).resolve() if Path(found).is_file() else None
+def path_of(word: str) -> Path | None:
+    """Returns the whole path of the program that a command's first word names: with a slash that file, without one a program of the PATH. None where there is none."""
+    found = word if "/" in word else shutil.which(word)
+    return Path(os.path.abspath(found)) if found and os.path.isfile(found) else None
+
+
+def file_of(word: str) -> Path | None:
+    """Returns the program's file that a command's first word names, if any, without links."""
+    found = path_of(word)
+    return found.resolve() if found else None
 
 
 def settled_words(words):
@@ -80,15 +86,15 @@ def sum_of_file(file: Path) -> str:
 
 def sum_of_command(words: Sequence[str]) -> str:
     """Returns the checksum of the file where the command is one; else of the words, and of the files that they name."""
-    files = [file_of(word) for word in words]
+    files = [file_of(words[0]), *(Path(word) if os.path.isfile(word) else None for word in words[1:])]
     sums = [sum_of_file(file) if file else "-" for file in files]
     return sums[0] if len(words) == 1 and files[0] else sum_of(shlex.join([*words, *sums]).encode("utf-8", "surrogateescape"))
 
 
 def launcher_of(words: Sequence[str]) -> Path | None:
     """Returns the script of a program's name that these words are, which stands beside a launcher and can be asked for the program; or None."""
-    file = Path(shutil.which(words[0]) or words[0])
-    if len(words) != 1 or file.name not in PROGRAMS or not file.is_file():
+    file = path_of(words[0])
+    if len(words) != 1 or file is None or file.name not in PROGRAMS:
         return None
     try:
         is_script, launcher = read_path(file, 2) == b"#!", file.resolve().with_name("sdhring")

@@ -2,7 +2,7 @@
 
 from . import drawing
 from .customers import circuit_table, outcome, port_table, steps_table
-from .escaping import drawn, html, joined, lines
+from .escaping import Markup, drawn, html, joined, lines
 from .legend import legend
 from .look import condition_words
 from .markup import BREAK, COMPARED, HITLESS, count_of, folded, listing, origin_list, table, warning, whole
@@ -165,14 +165,13 @@ def tools():
     return html('<p class="tools" hidden><button type="button" class="unfold">unfold all</button> what is folded isn\'t printed.</p>')
 
 
-def outages_note(beside):
-    """What `out` means on the page, and which text has it."""
-    name, sum_ = beside
-    return html('<p class="note">{} Outages are from <code>{}</code>, whose checksum is <code>{}</code>.</p>', OUT, name, sum_[:12])
+def outages_note(beside: Markup) -> Markup:
+    """Returns what `out` means on the page, and where it comes from."""
+    return html('<p class="note">{} Where outages come from: {}.</p>', OUT, beside)
 
 
 def run_page(title, plan, report, looks, origin, beside=None):
-    """`beside` is the name and the checksum of the text that has outages, where there is one."""
+    """`beside` says where the text comes from that has outages, where there is one."""
     parts = [html("<h1>{}</h1>", title), warning(origin), ending(plan, report)]
     parts += [html("<p>{}</p>", about(plan)), in_short(origin), tools()]
     if beside and looks:

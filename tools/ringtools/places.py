@@ -8,14 +8,18 @@ The program skips comments, so that names are for people and tools alone. Only `
 
 import re
 import unicodedata
+from collections.abc import Sequence
 from dataclasses import dataclass, field
 
 from .checks import is_decimal, why_no_name
 from .source import STRINGS
 
 DRAWN = 18  # of a place in a drawing; its title has the whole name
+# Words beside which a number names a node, a span or a side of one: what consists of these and of numbers is no name.
+BESIDE_NUMBERS = frozenset("node nodes ne span fibre link east west eastward westward eastwards westwards ost e w to towards nach".split())
 NAMED = re.compile(r"# (node|circuit) (\S+) is (\S(?:.*\S)?)[ \t\r]*")
 PARTS = re.compile("|".join([*(f"(?:{form.pattern})" for form in STRINGS), "(?P<comment>#[^\n]*)"]), re.S)
+SIDES_ALONE = frozenset("east west eastward westward eastwards westwards ost".split())
 
 
 class PlaceProblem(Exception):
@@ -61,9 +65,19 @@ def composed(words: str) -> str:
     return unicodedata.normalize("NFC", words)
 
 
+def why_no_place(name: str) -> str | None:
+    """Returns what is wrong with a name of a place, or None. `2`, `-2`, `node 2`, `2 east` and `2-3` would be read as identifiers in some list, and as the name in another."""
+    words = re.findall(r"\w+", unicodedata.normalize("NFKC", name).casefold())
+    if len(words) == 1 and words[0] in SIDES_ALONE:
+        return "a side's word would be read as that side"
+    if any(map(str.isdecimal, words)) and all(word.isdecimal() or word in BESIDE_NUMBERS for word in words):
+        return "a number alone, or beside words such as node and east, would be read as an identifier"
+    return why_no_name(name)
+
+
 def written(kind, number, name):
     """The comment that keeps a name: `kind` is node or circuit, and `number` its identifier or its name in the plan."""
-    if why := why_no_name(name):
+    if why := (why_no_place if kind == "node" else why_no_name)(name):
         raise PlaceProblem(f"{kind} {number}, `{name}`: {why}")
     return f"# {kind} {number} is {name}"
 
@@ -84,15 +98,27 @@ def read_places(data):
             continue
         names = places.nodes if found[1] == "node" else places.circuits
         number = int(found[2]) if found[1] == "node" else found[2]
-        if names.setdefault(number, found[3]) != found[3]:
+        why = f"{names[number]} before" if names.setdefault(number, found[3]) != found[3] else found[1] == "node" and why_no_place(found[3])
+        if why:
             line = text.count("\n", 0, at) + 1
-            raise PlaceProblem(f"line {line}: {found[1]} {number} is named {found[3]}, and {names[number]} before")
+            raise PlaceProblem(f"line {line}: {found[1]} {number} is named {found[3]}, and {why}")
     return places
 
 
-def shown_places(data):
-    """The names that are shown of a plan: none where two comments name one thing."""
+def check_once(places: Places, ids: Sequence[int]) -> None:
+    """Raises PlaceProblem where two nodes of a ring have one name, in large or small letters."""
+    named = [(number, places.nodes[number]) for number in ids if number in places.nodes]
+    first: dict[str, int] = {}
+    for number, name in named:
+        if (other := first.setdefault(name.casefold(), number)) != number:
+            raise PlaceProblem(f"nodes {other} and {number} are both named {name}")
+
+
+def shown_places(data: bytes, ids: Sequence[int]) -> tuple[Places, str]:
+    """Returns the names that are read and shown of a ring's plan; or none, and why: where one name isn't clear, none is taken, so that all tools read one list one way."""
     try:
-        return read_places(data)
-    except PlaceProblem:
-        return Places()
+        places = read_places(data)
+        check_once(places, ids)
+    except PlaceProblem as problem:
+        return Places(), str(problem)
+    return places, ""

@@ -6,7 +6,7 @@ from dataclasses import dataclass, field
 
 from .checks import SIDES, STEP_FORMS, Checks, refusals
 from .files import PLAN, Limit
-from .places import Places, shown_places, written
+from .places import PlaceProblem, Places, shown_places, written
 from .source import STRINGS
 
 # Refusals of steps that can each be read even so; the program itself decides what it accepts, and why not.
@@ -88,6 +88,13 @@ class Plan:
     circuits: tuple
     steps: tuple
     places: Places = field(default_factory=Places, compare=False)
+    unnamed: str = field(default="", compare=False)  # why its comments give no names, where they don't
+
+    def clear_places(self) -> Places:
+        """Returns the names that its comments give. Raises PlaceProblem where one isn't clear."""
+        if self.unnamed:
+            raise PlaceProblem(self.unnamed)
+        return self.places
 
     @property
     def size(self):
@@ -214,7 +221,7 @@ def read_plan(data: bytes, document: dict | None = None) -> Plan:
     circuits = tuple(read_circuit(table, ids) for table in document.get("circuit", []))
     steps = tuple(parsed(text, ids) for text in document["script"])
     numbers = document["threshold"], document["wait"], document["limit"]
-    return Plan(document["rate"], ids, *numbers, circuits, steps, shown_places(data))
+    return Plan(document["rate"], ids, *numbers, circuits, steps, *shown_places(data, ids))
 
 
 def quoted(text):

@@ -5,21 +5,34 @@ from collections import Counter
 from collections.abc import Sequence
 from pathlib import Path
 
-from .files import FileProblem
+from .files import FileProblem, Found, found_in, is_there
+from .plan import Plan
+from .shown import say
 
 
-def plans_of(words, ending=".toml"):
-    """The files that these words name: each word is a file, or `-`, or a folder, which stands for the files of this ending in it, in the order of their names."""
-    found = []
+def named_in(folder: str, ending: str) -> list[Found]:
+    """Returns all names of this ending in a folder, in their order. What can't be read is among them, so that its reader says so."""
+    try:
+        names = sorted(name for name in os.listdir(folder) if name.endswith(ending))
+    except OSError as error:
+        raise FileProblem(f"{folder}: {error.strerror}") from None
+    if not names:
+        raise FileProblem(f"{folder}: no file {ending} is in this folder")
+    return [found_in(folder, name) for name in names]
+
+
+def plans_of(words: Sequence[str], ending: str = ".toml") -> list[str]:
+    """Returns the files that these words name: each word is a file, or `-`, or a folder, which stands for all of this ending in it, in the order of their names."""
+    found: list[str] = []
     for word in words:
-        if word == "-" or not Path(word).is_dir():
-            found.append(word)
-            continue
-        inside = sorted(str(file) for file in Path(word).glob(f"*{ending}") if file.is_file())
-        if not inside:
-            raise FileProblem(f"{word}: no file {ending} is in this folder")
-        found += inside
+        found += [word] if word == "-" or not Path(word).is_dir() else named_in(word, ending)
     return found
+
+
+def tell_unnamed(tool: str, name: str, plan: Plan) -> None:
+    """Says it where a plan's comments give names that aren't clear, so that none of them is read or shown."""
+    if plan.unnamed:
+        say(tool, f"{'standard input' if name == '-' else name}: {plan.unnamed}; so no names of its comments are read or shown")
 
 
 def are_many(words):
@@ -42,7 +55,12 @@ def need_names(names: Sequence[str], with_index: bool = False) -> None:
         raise FileProblem("the page of a plan `index.toml` would stand in place of the index; give that plan another name")
 
 
-def beside(plan, table):
-    """The table that stands beside a plan, as NAME.spans.csv beside NAME.toml; None where there is none."""
-    file = Path(plan).with_suffix(f".{table}.csv")
-    return str(file) if plan != "-" and file.is_file() else None
+def file_beside(name: str, other: str) -> Found | None:
+    """Returns the file of another name in the folder of a file that the user named; None where nothing has that name."""
+    file = Path(name).with_name(other)
+    return Found(file, file.parent) if name != "-" and is_there(file) else None
+
+
+def beside(plan: str, table: str) -> Found | None:
+    """Returns the table that stands beside a plan, as NAME.spans.csv beside NAME.toml; None where there is none."""
+    return file_beside(plan, Path(plan).with_suffix(f".{table}.csv").name) if plan != "-" else None

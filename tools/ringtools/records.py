@@ -2,7 +2,7 @@
 
 from .kbytes import CODES, MARKS
 from .plan import Circuit, Plan, Step
-from .report import CHUNK_LINE, COUNT, NODE, PORT, SETTLE, TABLE, read_report
+from .report import CHUNK_LINE, COUNT, NODE, PORT, SETTLE, TABLE, check_length, read_report
 
 STATUSES = {
     "done": 0,
@@ -129,6 +129,7 @@ def table_record(line):
 
 def record(text, plan=None):
     """The whole report; without its plan the text alone says what nodes and circuits there are."""
+    check_length(text)
     plan = plan or shape_of(text)
     report = read_report(text, plan)
     return {

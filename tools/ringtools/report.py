@@ -13,6 +13,7 @@ STATES = {
     "isolated": "isolated",
 }
 WINDOW = 128  # a settle step ends with a multiple of this number of rounds
+MOST_LINES = 20_000  # 64 settle steps of 16 nodes and 256 ports are 17,472 lines, and one ends the text
 USAGE = "usage: sdhring run, check, drop NAME END, big NUMBER"
 PLAIN_ENDS = {"done", "not toml", "plant fault", "too long", "no such port", "read fault", "not built", USAGE}
 NUMBER = r"(0|[1-9][0-9]{0,17})"
@@ -235,8 +236,15 @@ def kind_of(lines, plan):
     return "drop" if first == "ais" or CHUNK_LINE.fullmatch(first) else "none"
 
 
+def check_length(text: bytes) -> None:
+    """Raises ReportProblem where a text has more lines than any report."""
+    if text.count(b"\n") > MOST_LINES:
+        raise ReportProblem(f"it has more than {MOST_LINES:,} lines, the most of a report")
+
+
 def read_report(text, plan):
     """The report of this plan. `plan` is None where it couldn't be read: then the text can only be a refusal."""
+    check_length(text)
     lines = Lines(text)
     report = Report("none", [], [], "")
     if plan is not None:

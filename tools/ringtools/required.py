@@ -62,10 +62,13 @@ def depth_for(rules):
 
 def circuits_of(rule, told):
     """The circuits that a rule names."""
-    called = {told.plan.places.circuits.get(name): name for name in told.names} | {name: name for name in told.names}
-    if missing := [name for name in rule.names if name not in called]:
-        raise RuleProblem(f"there is no circuit {missing[0]}")
-    return {called[name] for name in rule.names}
+    called = {word: {name for name in told.names if word in (name, told.plan.places.circuits.get(name))} for word in rule.names}
+    for word, found in called.items():
+        if not found:
+            raise RuleProblem(f"there is no circuit {word}")
+        if len(found) > 1 and word in found:
+            raise RuleProblem(f"{word} is a circuit, and the name of the customer of {', '.join(sorted(found - {word}))}: name the circuits")
+    return set().union(*called.values())
 
 
 def verdict_on(rule, told):

@@ -29,10 +29,10 @@ TICK = 0.5  # seconds between two looks at what is done
 
 def run_one(store: Store, name: str) -> int:
     """Runs a case, keeps what was answered unless the program was stopped, and returns its status."""
-    begun = time.monotonic()
-    text, status = ask(store.program, ["run"], store.plan(name) or b"")
+    begun, document = time.monotonic(), store.plan(name)
+    text, status = ask(store.program, ["run"], document)
     if status not in STOPPED:
-        store.put_answer(name, text, status, time.monotonic() - begun)
+        store.put_answer(name, document, text, status, time.monotonic() - begun)
     return status
 
 
@@ -93,13 +93,14 @@ case $status in {stopped}) exit ;; esac
 
 def take(store: Store, folder: Folder, name: str, where: str) -> bool:
     """Keeps the answer of a case that came from a machine, if it is whole and of this plan and program; whether it did."""
+    document = store.plan(name)
     told, text = folder.read(f"{name}.answer", LONGEST), folder.read(f"{name}.text", TEXT.bytes)
     found = TOLD.fullmatch(told.decode("ascii", "replace")) if told is not None else None
     if not found or text is None:
         return False
-    if (found["plan"], found["text"], found["sum"]) != (sum_of(store.plan(name) or b""), sum_of(text), store.program.sum):
+    if (found["plan"], found["text"], found["sum"]) != (sum_of(document), sum_of(text), store.program.sum):
         return False
-    store.put_answer(name, text, int(found["status"]), float(found["seconds"]), where, found["date"])
+    store.put_answer(name, document, text, int(found["status"]), float(found["seconds"]), where, found["date"])
     return True
 
 
@@ -108,7 +109,7 @@ def run_with_parallel(store: Store, names: Sequence[str], machines: Machines, pr
     with tempfile.TemporaryDirectory(prefix="sdhwhatif-") as place:
         folder, left = Folder(Path(place)), set(names)
         for name in names:
-            folder.write(f"{name}.toml", store.plan(name) or b"")
+            folder.write(f"{name}.toml", store.plan(name))
         script = f"{Path(place).name}.sh"
         folder.write(script, script_of(store.program))
         more = ["--basefile", script, "--transferfile", "{}", "--return", "{.}.text", "--return", "{.}.answer", "--cleanup"]

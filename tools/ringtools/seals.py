@@ -2,6 +2,9 @@
 
 The key is a file of this account alone: `sdhring/seal.key` in the folder of XDG_STATE_HOME, or else in `~/.local/state`.
 Where neither that variable nor HOME names a folder, or the file can't be kept, a key lasts as long as the tool runs.
+
+FORM stands before each text that is sealed. It changes with what a seal says: the first said less of a plan that somebody
+changed while its case ran, so what has that seal is run anew.
 """
 
 import hashlib
@@ -16,6 +19,7 @@ from .files import FileProblem
 from .writing import Folder, own_folder
 
 BYTES, NAME = 32, "seal.key"
+FORM = b"sdhring seal 2\n"
 
 
 def absolute(variable: str) -> Path | None:
@@ -69,7 +73,7 @@ def key() -> bytes:
 
 def seal_of(text: str) -> str:
     """Returns the seal of a text, 64 hexadecimal digits."""
-    return hmac.new(key(), text.encode("utf-8", "surrogateescape"), hashlib.sha256).hexdigest()
+    return hmac.new(key(), FORM + text.encode("utf-8", "surrogateescape"), hashlib.sha256).hexdigest()
 
 
 def has_key() -> bool:

@@ -4,7 +4,9 @@ from dataclasses import dataclass
 from pathlib import Path
 
 from .drawing import written
+from .escaping import Markup
 from .files import TEXT, read_input
+from .markup import came_along
 from .origin import LAUNCHER, CannotRun, Origin, Program, find_program, now, program_of, sum_of
 from .outages import read_outages
 from .report import ReportProblem
@@ -47,7 +49,7 @@ class Outages:
 
     steps: list
     events: list | None
-    source: str
+    source: str | Markup
 
 
 NONE = Outages([], None, "not known: sdhoutage isn't here")
@@ -57,7 +59,8 @@ def outages_of(asked, data, plan):
     """What sdhoutage wrote before, or writes now. Where it isn't here there is nothing, and the words can be drawn all the same."""
     if asked.outages:
         text = read_input(asked.outages, TEXT)
-        return Outages(read_outages(text, plan), None, f"{asked.outages}, whose checksum is {sum_of(text)[:12]}")
+        name = "standard input" if asked.outages == "-" else asked.outages
+        return Outages(read_outages(text, plan), None, came_along(name, sum_of(text)))
     try:
         program = find_program([str(beside("sdhoutage"))])
     except CannotRun:

@@ -14,7 +14,7 @@ from collections.abc import Callable
 from pathlib import Path
 from typing import NoReturn
 
-from .files import FileProblem
+from .files import FileProblem, begin_run
 from .shown import say, shown_lines
 
 FAILED = 1
@@ -132,6 +132,7 @@ def end_with_reader() -> NoReturn:
 def start(main: Main, failed: int = FAILED) -> NoReturn:
     """Runs main with the words of the command line, and ends with its status; `failed` is that for a file's trouble."""
     open_standard_files()
+    begin_run()
     try:
         status = ended(main)
     except (Exception, KeyboardInterrupt) as error:

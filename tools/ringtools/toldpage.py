@@ -8,8 +8,9 @@ from collections.abc import Iterator
 from .against import CHANGED, GAINS, LOSES
 from .desktable import ALL_KINDS, WHOLE
 from .escaping import Markup, html, joined, lines
-from .markup import codes, count_of, folded, listing, names, origin_list, table, unbroken, warning, whole
+from .markup import codes, count_of, folded, listing, moment_words, names, note, origin_list, table, unbroken, warning, whole
 from .moves import OTHER_ENDS, OTHER_SLOT, OTHER_WAY
+from .origin import now
 from .page import tools
 
 CHANGES = (GAINS, LOSES, CHANGED)
@@ -187,7 +188,7 @@ def moved_words(against) -> Iterator[str | Markup]:
 
 def against_section(against):
     """Who gains, who loses and who goes another way beside the other plan or table."""
-    counts, name, depths = against.counts(), against.other.name, against.depths
+    counts, depths = against.counts(), against.depths
     of = lambda circuit, what: sum(counts[circuit, depth, what] for depth in depths)
     gains, loses, changed = ([circuit for circuit in against.shared if of(circuit, what)] for what in CHANGES)
     called = lambda found: names(map(against.called, found)) or "none"
@@ -204,13 +205,15 @@ def against_section(against):
     shown = [row for row in rows if any(row[1:])]
     same = "" if gains or loses else html("<p>Every customer survives and is lost in the same cases.</p>")
     body = listing(words) + same + (table("cases in which a customer gains, loses or goes another way", titles, shown) if shown else "")
-    return html('<section id="against"><h2>Beside {}</h2>{}</section>', name, body)
+    origins = (html("<p>Where {} comes from: {}.</p>", one.title, one.origin) for one in (against.this, against.other) if one.origin)
+    return html('<section id="against"><h2>Beside {}</h2>{}{}</section>', against.other.title, lines(*origins), body)
 
 
 def beside_page(against):
     """The page of two tables alone."""
-    title = f"{against.this.name} beside {against.other.name}"
-    return whole(title, html("<h1>{}</h1>{}", title, against_section(against)), ["whatif.css"])
+    heading = html("{} beside {}", against.this.title, against.other.title)
+    written = note(f"Page written {moment_words(now())}, by no program but these tools.")
+    return whole(f"{against.this.name} beside {against.other.name}", html("<h1>{}</h1>{}{}", heading, against_section(against), written), ["whatif.css"])
 
 
 def told_page(title, beforehand, told, checked, origins, against=None):

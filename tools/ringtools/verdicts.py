@@ -162,6 +162,7 @@ def judge(case, plan, text, answer):
 
 FIXED = ["Case", "Kind", "Failure", "Status", "Stage", "Round", "Applied", "Kept", "Impaired", "Over", "Lost", "Odd", "Model"]
 SOURCE = ["Program", "Proof", "Version", "Sum", "Plan", "Script", "Also", "Works"]
+SOURCE_OF_COUNTS = [*SOURCE, "Answer"]  # of what was counted
 
 
 def table_head(plan):
@@ -177,6 +178,11 @@ def source_cells(answer, asked):
     told = [answer.program, answer.proof, answer.version, answer.sum] if answer else [""] * 4
     before = asked.beforehand
     return told + [asked.plan_sum, before.script_words(), "; ".join(before.also_texts()), "; ".join(before.works_texts())]
+
+
+def source_of_counts(answer, asked) -> list[str]:
+    """Returns the same of what was counted, and whether the answer was run for this table or kept: nothing else shows whether the program ran."""
+    return [*source_cells(answer, asked), answer.came() if answer else ""]
 
 
 def table_rows(asked, verdict):

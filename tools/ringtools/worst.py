@@ -16,7 +16,7 @@ from .progress import Progress
 from .report import ReportProblem
 from .running import processors, run_here
 from .shown import shown
-from .verdicts import SOURCE, UNSETTLED, source_cells
+from .verdicts import SOURCE_OF_COUNTS, UNSETTLED, source_of_counts
 from .writing import Folder
 
 COLUMNS = ["Case", "Kind", "Failure", "Stage", "Longest", "Milliseconds", "Over", "None", "Still out", "Foreign", "Ports", "Milliseconds with fibre", "Customers"]
@@ -89,6 +89,7 @@ class Counted:
     """What was counted: of each case by its name, and who was lost or interrupted in some case."""
 
     rows: dict
+    answers: dict  # by the case's name
     found: Found
     losing: int = 0  # cases in which a customer is lost that doesn't end at a lost node
     odd: int = 0
@@ -127,33 +128,34 @@ def run_cases(asked, store, cases):
 
 def read_answers(store, subject, cases, lengths=None):
     """What was counted of each case, and how many have no text that can be read."""
-    counted = Counted({}, Found(set(), None, set()))
+    counted = Counted({}, {}, Found(set(), None, set()))
     for case in cases:
+        counted.answers[case.name], text = store.both(case.name)
         try:
-            counted.add(case, subject.plan, *interruptions(case, subject.beforehand.plan_of(case), store.text(case.name), lengths))
+            counted.add(case, subject.plan, *interruptions(case, subject.beforehand.plan_of(case), text, lengths))
         except ReportProblem as problem:
             say(f"{case.name}: {problem}")
             counted.odd += 1
     return counted
 
 
-def all_rows(told, cases, found) -> Iterator[list]:
-    yield [*COLUMNS, *SOURCE]
+def all_rows(told, cases, counted) -> Iterator[list]:
+    yield [*COLUMNS, *SOURCE_OF_COUNTS]
     for case in cases:
-        source = source_cells(told.store.answer(case.name), told)
-        yield from ([*row.cells(told.beforehand.plan.places), *source] for row in found.get(case.name, ()))
+        source = source_of_counts(counted.answers[case.name], told)
+        yield from ([*row.cells(told.beforehand.plan.places), *source] for row in counted.rows.get(case.name, ()))
 
 
-def write_interruptions(folder: Folder, name: str, told, cases, found) -> None:
+def write_interruptions(folder: Folder, name: str, told, cases, counted) -> None:
     with folder.writing_text(name) as file:
-        write_rows(file, all_rows(told, cases, found))
+        write_rows(file, all_rows(told, cases, counted))
 
 
-def ended(subject, store, cases, odd):
+def ended(subject, cases, counted):
     """The status, and a line where it isn't 0."""
-    statuses = [store.status(case.name) for case in cases]
+    statuses = [answer and answer.status for answer in counted.answers.values()]
     unsettled = statuses.count(UNSETTLED)
-    odd = max(odd, len(cases) - unsettled - statuses.count(0))
+    odd = max(counted.odd, len(cases) - unsettled - statuses.count(0))
     if odd:
         say(f"{odd} of {count_of(len(cases), 'case')} didn't end Ok, and not all of their stages are counted")
     if unsettled:
@@ -179,6 +181,6 @@ def ask_outages(asked, subject):
     tell([counted.line(subject.title, subject.plan), *summary([row for case in cases for row in found.get(case.name, ())])])
     folder, table = folder_of(asked, subject.name), f"interruptions{'' if shards == 1 else f'-{shard}-of-{shards}'}.csv"
     keep_question(asked, subject)
-    write_interruptions(folder, table, asked_of(asked, subject, store), cases, found)
+    write_interruptions(folder, table, asked_of(asked, subject, store), cases, counted)
     print(shown(folder.path / table))
-    return ended(subject, store, cases, counted.odd) or (FAILED_ON if counted.found.fails(asked.fail_on) else 0)
+    return ended(subject, cases, counted) or (FAILED_ON if counted.found.fails(asked.fail_on) else 0)

@@ -2,17 +2,19 @@
 
 A file is written beside its place, under a name that nobody can guess, and put there once it is whole: so no link is
 written through, and no reader sees a part of it. Below a folder that is written to no link is followed either. A folder
-that the tool chose by itself has to be the user's own; one that the user named may be another's.
+that the tool chose by itself has to be the user's own; one that the user named may be another's. On the way to it a link
+is followed only where it is the user's own or root's: another user's link would choose what is written over.
 """
 
 import errno
 import io
 import os
+import pwd
 import secrets
 import stat
 from collections.abc import Iterator
 from contextlib import contextmanager, suppress
-from dataclasses import dataclass
+from dataclasses import dataclass, replace
 from pathlib import Path
 from typing import BinaryIO, TextIO
 
@@ -22,6 +24,7 @@ FOLDER = os.O_RDONLY | os.O_DIRECTORY | os.O_NOFOLLOW | os.O_CLOEXEC
 NEW = os.O_WRONLY | os.O_CREAT | os.O_EXCL | os.O_NOFOLLOW | os.O_CLOEXEC
 NO_LINKS = (errno.EPERM, errno.EOPNOTSUPP, errno.ENOSYS)  # of file systems that have no second names
 KEPT = os.O_RDONLY | os.O_NOFOLLOW | os.O_NONBLOCK | os.O_CLOEXEC
+MOST_LINKS = 40  # on the way to a folder, as the system has it
 
 
 class WriteProblem(FileProblem):
@@ -55,14 +58,95 @@ def problem_of(path: Path, error: OSError) -> WriteProblem:
     return WriteProblem(f"{path}: {error.strerror}")
 
 
-def open_folder(path: Path, name: str | None = None, within: int | None = None) -> int:
-    """Returns a descriptor of a folder, by its path, or by its name within another. Raises WriteProblem, for a link too."""
+def open_inner(path: Path, name: str, within: int) -> int:
+    """Returns a descriptor of the folder of this name within another; the path is for words. Raises WriteProblem, for a link too."""
     try:
-        return os.open(path if name is None else name, FOLDER, dir_fd=within)
+        return os.open(name, FOLDER, dir_fd=within)
     except OSError as error:
         raise problem_of(path, error) from None
+
+
+def name_of_user(uid: int) -> str:
+    try:
+        return pwd.getpwuid(uid).pw_name
+    except KeyError:
+        return f"user {uid}"
+
+
+@dataclass
+class Way:
+    """The way to a folder, step by step. `left` are the parts that are still to be gone, the next one last; `links` counts those that were followed."""
+
+    path: Path
+    descriptor: int
+    left: list[str]
+    may_end_in_link: bool = False  # whether the named path's own last part may be one
+    mode: int | None = None  # of folders that are made on the way, the last one apart, whatever the user's mask is
+    last_mode: int | None = None  # of the last one; None where nothing is to be made
+    links: int = 0
+
+    def goto(self, descriptor: int) -> None:
+        os.close(self.descriptor)
+        self.descriptor = descriptor
+
+    def follow(self, name: str) -> None:
+        """Puts what a link leads to in its place. Raises WriteProblem for one of another user, and for one that is the last part."""
+        owner, target = os.stat(name, dir_fd=self.descriptor, follow_symlinks=False).st_uid, os.readlink(name, dir_fd=self.descriptor)
+        if not self.left and not self.may_end_in_link:
+            raise WriteProblem(f"{self.path} is a link to {target}, and nothing is written through links; name that folder itself")
+        if owner not in (0, os.geteuid()):
+            raise WriteProblem(f"{self.path}: `{name}` on the way is a link to {target} that belongs to {name_of_user(owner)}, and nothing is written through it; name that folder itself")
+        self.links += 1
+        if self.links > MOST_LINKS:
+            raise OSError(errno.ELOOP, os.strerror(errno.ELOOP))
+        self.left += reversed(target.split("/"))
+        if target.startswith("/"):
+            self.goto(os.open("/", FOLDER))
+
+    def make(self, name: str) -> None:
+        """Makes the folder of this name, which isn't there."""
+        exact = self.mode
+        with suppress(FileExistsError):
+            os.mkdir(name, 0o700 if exact is not None else self.last_mode if not self.left else 0o777, dir_fd=self.descriptor)
+            if exact is not None:
+                with suppress(OSError):
+                    os.chmod(name, exact, dir_fd=self.descriptor, follow_symlinks=False)
+
+    def step(self, name: str) -> None:
+        try:
+            self.goto(os.open(name, FOLDER, dir_fd=self.descriptor))
+        except FileNotFoundError:
+            if self.last_mode is None or name == "..":
+                raise
+            self.make(name)
+            self.goto(os.open(name, FOLDER, dir_fd=self.descriptor))
+        except OSError as error:
+            if error.errno not in (errno.ELOOP, errno.ENOTDIR) or not stat.S_ISLNK(os.stat(name, dir_fd=self.descriptor, follow_symlinks=False).st_mode):
+                raise
+            self.follow(name)
+
+    def gone(self) -> int:
+        """Goes the way to its end, and returns the descriptor of the folder there."""
+        try:
+            while self.left:
+                if (name := self.left.pop()) not in ("", "."):
+                    self.step(name)
+            return self.descriptor
+        except BaseException:
+            os.close(self.descriptor)
+            raise
+
+
+def open_way(path: Path, may_end_in_link: bool = False, mode: int | None = None, last_mode: int | None = None) -> int:
+    """Returns a descriptor of the folder at a path; where `last_mode` is given it and those above it are made. Raises WriteProblem."""
+    text = os.fspath(path)
+    try:
+        begin = os.open("/" if text.startswith("/") else ".", FOLDER)
+        return Way(path, begin, list(reversed(text.split("/"))), may_end_in_link, mode, last_mode).gone()
+    except OSError as error:
+        raise WriteProblem(f"{path}: {error.strerror}") from None
     except ValueError:
-        raise WriteProblem(f"{os.fspath(path)!r}: this is no name of a folder") from None
+        raise WriteProblem(f"{text!r}: this is no name of a folder") from None
 
 
 def put_new(folder: int, name: str, data: bytes, mode: int) -> None:
@@ -82,11 +166,15 @@ def need_own(descriptor: int, path: Path) -> None:
 
 @dataclass(frozen=True)
 class Folder:
-    """A folder that is written to: the path that was named, and the names below it. `is_own` says that it has to be the user's own."""
+    """A folder that is written to: the path that was named, and the names below it. `is_own` says that it has to be the user's own.
+
+    `may_end_in_link` is of the folder of a file that was named: a link may lead to it, if it is the user's own or root's.
+    """
 
     base: Path
     below: tuple[str, ...] = ()
     is_own: bool = False
+    may_end_in_link: bool = False
 
     @property
     def path(self) -> Path:
@@ -96,11 +184,11 @@ class Folder:
     @contextmanager
     def opened(self) -> Iterator[int]:
         """Gives a descriptor of the folder, once each folder on the way to it below the base is one and no link."""
-        descriptor, path = open_folder(self.base), self.base
+        descriptor, path = open_way(self.base, self.may_end_in_link), self.base
         try:
             for name in self.below:
                 path = path / name
-                inner = open_folder(path, name, descriptor)
+                inner = open_inner(path, name, descriptor)
                 os.close(descriptor)
                 descriptor = inner
             if self.is_own:
@@ -111,7 +199,7 @@ class Folder:
 
     def inside(self, name: str, mode: int | None = None) -> "Folder":
         """Returns the folder of this name below, and makes it where it isn't there; with this mode, whatever the user's mask is."""
-        found, is_new = Folder(self.base, (*self.below, name), self.is_own), True
+        found, is_new = replace(self, below=(*self.below, name)), True
         with self.opened() as descriptor:
             try:
                 os.mkdir(name, dir_fd=descriptor)
@@ -238,9 +326,9 @@ class Folder:
             return sorted(os.listdir(folder))
 
 
-def named_folder(path: str | os.PathLike[str]) -> Folder:
-    """Returns the folder that the user named, and makes it and those above it where they aren't there."""
-    return made(Folder(Path(path)))
+def named_folder(path: str | os.PathLike[str], mode: int | None = None) -> Folder:
+    """Returns the folder that the user named, and makes it and those above it where they aren't there; with this mode, whatever the user's mask is."""
+    return made(Folder(Path(path)), mode=mode)
 
 
 def own_folder(path: str | os.PathLike[str], mode: int = 0o777) -> Folder:
@@ -248,20 +336,13 @@ def own_folder(path: str | os.PathLike[str], mode: int = 0o777) -> Folder:
     return made(Folder(Path(path), is_own=True), mode)
 
 
-def made(folder: Folder, mode: int = 0o777) -> Folder:
+def made(folder: Folder, last_mode: int = 0o777, mode: int | None = None) -> Folder:
     """Returns the folder, which is there then and may be written to."""
-    try:
-        os.makedirs(folder.base, mode, exist_ok=True)
-    except FileExistsError:
-        pass  # a link or a file, of which the next line says what it is
-    except OSError as error:
-        raise problem_of(folder.base, error) from None
-    except ValueError:
-        raise WriteProblem(f"{os.fspath(folder.base)!r}: this is no name of a folder") from None
+    os.close(open_way(folder.base, mode=mode, last_mode=last_mode))
     with folder.opened():
         return folder
 
 
 def folder_of_file(path: str | os.PathLike[str]) -> tuple[Folder, str]:
     """Returns the folder of a file that the user named, which is there, and the file's name in it."""
-    return Folder(Path(os.path.realpath(Path(path).parent))), Path(path).name
+    return Folder(Path(path).parent, may_end_in_link=True), Path(path).name

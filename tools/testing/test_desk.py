@@ -366,7 +366,7 @@ class Groups(unittest.TestCase):
         self.assertEqual([(row["over protection"], row["lost"]) for row in rows], [("0", "2"), ("0", "1")])
         self.assertIn("Shared-risk groups, one alone : customers are lost in 2 of 2; at most 2.", seen.text())
         self.assertNotIn("min/year", seen.text())
-        self.assertIn("Groups: groups.csv , checksum", seen.text())
+        self.assertIn("Groups are those of these files; it isn't known who wrote them: groups.csv , checksum", seen.text())
         self.assertIn("min/year", self.made("--spans", "spans.csv"))
         self.assertNotIn("roups", Seen(page()).text())
 

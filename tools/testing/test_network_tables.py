@@ -256,7 +256,7 @@ MISTAKES = (
     ("rings.csv:3: the ring north stood in line 2 already", {"rings": RINGS.replace("South", "north")}),
     ("rings.csv:2: `places` has 1 place, separated by semicolons, and a ring has 2 to 16", {"rings": "ring,rate,places\nNorth,4,Ahlen - Bonn\n"}),
     ("rings.csv:2: `places` has bonn twice", {"rings": RINGS.replace("Celle; Dorf", "bonn; Dorf")}),
-    ("rings.csv:2: `places` has `7`, and a number alone would be read as a node's identifier", {"rings": RINGS.replace("Dorf", "7")}),
+    ("rings.csv:2: `places` has `7`, and a number alone, or beside words such as node and east, would be read as an identifier", {"rings": RINGS.replace("Dorf", "7")}),
     ("rings.csv:2: `ring` is empty, and a name is wanted", {"rings": RINGS.replace("North", "")}),
     ("circuits.csv:2: `from` is `Alhen`, and no ring comes there; there is Ahlen", {"circuits": CIRCUITS.replace("long,Ahlen", "long,Alhen")}),
     ("circuits.csv:2: `to` is empty, and a place is wanted", {"circuits": CIRCUITS.replace("Ahlen,Fulda", "Ahlen,")}),

@@ -226,7 +226,7 @@ class Outages(unittest.TestCase):
         self.assertIn("The longest interruption in this step: 12 frames, 1.500 ms, at north b, works b. 2 of 6 ports had none.", page.text())
         self.assertIn("No port was without its own customer's bytes in this step.", page.text())
         self.assertTrue(any("port works b at node 3" in title and title.endswith("out in this step: 12 frames, 1.500 ms, 1 jump") for title in page.titles))
-        self.assertIn(f"Outages are from {WORKS_OUT} , whose checksum is", page.text())
+        self.assertIn(f"it isn't known who or which program wrote this, the file {WORKS_OUT} , whose checksum is", page.text())
 
     def test_a_port_that_stays_out(self):
         rows = self.page(OUTAGES / "node-cut-off.text", ring("node-cut-off")).table_named("Circuits")
@@ -270,7 +270,7 @@ class Outages(unittest.TestCase):
     def test_standard_input(self):
         ended = call("sdhring-view", "--outages", "-", *WORKS, input=WORKS_OUT.read_bytes())
         self.assertEqual(ended.returncode, 0)
-        self.assertIn("Outages are from <code>standard input</code>", ended.stdout.decode())
+        self.assertIn("the file <code>standard input</code>, whose checksum is", ended.stdout.decode())
         ended = call("sdhring-view", "--outages", "-", WORKS[0], "-", input=b"")
         self.assertEqual(ended.stderr, b"sdhring-view: only one of PLAN, REPORT and the outages can be standard input\n")
 

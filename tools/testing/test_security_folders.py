@@ -85,6 +85,48 @@ class Links(Place):
         self.call("sdhring-whatif", "--kinds", "span", "ring.toml", status=1)
         self.assertEqual(list((self.top / "home").iterdir()), [])
 
+    def test_a_link_on_the_way_that_is_ones_own_is_followed(self):
+        (self.top / "real" / "inner").mkdir(parents=True)
+        (self.top / "mine").symlink_to("real")
+        self.call("sdhring-view", "--to", "mine/pages", "ring.toml")
+        self.call("sdhring-desk", "--to", "mine/inner/../desks", "ring.toml")
+        self.call("sdhring-plan", "new", "--to", "mine/new.toml", "1>3")
+        self.assertEqual(sorted(path.name for path in (self.top / "real").iterdir()), ["desks", "inner", "new.toml", "pages"])
+        (self.top / "round").symlink_to("round")
+        self.assertIn(b"Too many levels of symbolic links", self.call("sdhring-view", "--to", "round/pages", "ring.toml", status=1).stderr)
+
+    @unittest.skipUnless(IS_ROOT, "another user's link is made by root alone")
+    def test_a_link_on_the_way_of_another_user_is_followed_by_none(self):
+        """Who writes in a folder of another's choice would write over what is there, as a page over a page of the same name."""
+        home, shared = self.top / "home", self.top / "shared"
+        home.mkdir()
+        shared.mkdir()
+        shared.chmod(0o777)
+        (shared / "sub").symlink_to(home)
+        (shared / "deep").symlink_to("sub")
+        for link in ("sub", "deep"):
+            os.chown(shared / link, NOBODY, -1, follow_symlinks=False)
+        (home / "report.html").write_text("mine")
+        (self.top / "list").write_text("LOS node 2 east\n")
+        (self.top / "tables").mkdir()
+        (self.top / "tables" / "rings.csv").write_text("ring,rate,places\nNorth,4,A;B;C\n")
+        (self.top / "tables" / "circuits.csv").write_text("name,from,to\none,A,C\n")
+        for link in ("sub", "deep"):
+            there = f"shared/{link}"
+            for words in (
+                ("sdhring-view", "--to", f"{there}/pages", "ring.toml"),
+                ("sdhring-desk", "--to", f"{there}/pages", "ring.toml"),
+                ("sdhring-now", "--alarms", "list", "--page", f"{there}/report.html", "ring.toml"),
+                ("sdhring-whatif", "--kinds", "span", "--dir", f"{there}/w", "ring.toml"),
+                ("sdhring-plan", "new", "--to", f"{there}/p.toml", "1>3"),
+                ("sdhring-network", "import", "tables", "--to", f"{there}/net"),
+            ):
+                with self.subTest(words=words):
+                    said = self.call(*words, status=1).stderr.decode()
+                    self.assertIn(f"`{link}` on the way is a link to", said)
+                    self.assertIn("that belongs to nobody, and nothing is written through it", said)
+        self.assertEqual(([path.name for path in home.iterdir()], (home / "report.html").read_text()), (["report.html"], "mine"))
+
     def test_a_new_plan_replaces_nothing(self):
         victim = self.link("new.toml")[0]
         self.call("sdhring-plan", "new", "--to", "new.toml", "1>3", status=1)
@@ -184,7 +226,7 @@ class Machine(Place):
         store = Store(named_folder(self.top / "cases"), find_program([str(program)]))
         store.put_plan("a", self.plan.read_bytes())
         run_with_parallel(store, ["a"], Machines((":",), 1, ()), Progress(1, 0))
-        self.assertEqual((store.status("a"), store.answer("a").where), (0, "here"))
+        self.assertEqual((store.answer("a").status, store.answer("a").where), (0, "here"))
         self.assertFalse((self.top / "pwned").exists())
 
     def test_the_script_for_a_machine_quotes_the_program(self):

@@ -21,7 +21,7 @@ MEGABYTES = 200
 SECONDS = 20  # of a processor: ten times what is promised, so that a loaded or slow machine doesn't matter
 GOOD = bytes_of("span-cut")[0].decode()
 BEFORE, _, AFTER = GOOD.partition("script = ")
-HEAD = "Failures,Over circuits,Lost circuits\n"
+HEAD = "Failures,Depth,Kept,Impaired,Over,Lost,Impaired circuits,Over circuits,Lost circuits\n"
 
 
 def with_script(script):
@@ -124,10 +124,37 @@ class Limits(unittest.TestCase):
         with self.assertRaisesRegex(TableProblem, ":5: this table has at most 3 rows"):
             read_table(str(file), ("name",), ("name",), 3)
 
+    def test_texts_of_more_lines_than_a_report_has(self):
+        for name, text in {"newlines": "\n" * 3_900_000, "lines": "done\n" * 3_300_000, "steps": "settle 1 round 128\n" * 800_000, "one line": "a" * 16_000_000}.items():
+            (self.top / "a.text").write_text(text)
+            with self.subTest(text=name):
+                said, status = self.run_tool("sdhring-report", "--json", "a.text")
+                self.assertEqual((status, said.count("\n")), (1, 1), said)
+
+    def test_groups_that_touch_one_ring(self):
+        """Each two of them would be asked about."""
+        (self.top / "t").mkdir()
+        (self.top / "t" / "rings.csv").write_text(f"ring,rate,places\nNorth,4,{';'.join('ABCDEFGH')}\n")
+        (self.top / "t" / "circuits.csv").write_text("name,from,to\none,A,C\n")
+        self.assertEqual(self.run_tool("sdhring-network", "import", "t", "--to", "net")[1], 0)
+        document = self.top / "net" / "network.toml"
+        good = document.read_text()
+        group = '[[group]]\nname = "g{}"\nmembers = ["span A-B", "span {}-{}"]\n'
+        groups = [group.format(number, *"BCDEFGH"[number % 6 : number % 6 + 2]) for number in range(1000)]
+        document.write_text(good + "".join(groups))
+        for words in (("whatif", "net", "--summary", "--dir", "o"), ("page", "net", "--to", "p"), ("room", "net"), ("availability", "net")):
+            said, status = self.run_tool("sdhring-network", *words)
+            self.assertEqual((status, said), (1, "sdhring-network: net/network.toml: 1,000 groups touch ring North, and at most 64 may\n"))
+        document.write_text(good + "".join(groups[:64]))
+        self.assertEqual(self.run_tool("sdhring-network", "room", "net")[1], 0)
+        (self.top / "t" / "groups.csv").write_text("group,members\n" + "".join(f"g{number},span A-B; span C-D\n" for number in range(65)))
+        self.assertIn("65 groups touch ring North", self.run_tool("sdhring-network", "import", "t", "--to", "new")[0])
+        self.assertFalse((self.top / "new").exists())
+
     def test_tables_of_all_cases(self):
         tables = {
-            "rows": HEAD + "".join(f"fibre {number},,\n" for number in range(MOST_CASES)),
-            "circuits": HEAD + "".join(f"fibre {number},c{number},\n" for number in range(CIRCUITS + 1)),
+            "rows": HEAD + "".join(f"fibre {number},1,9,0,0,0,,,\n" for number in range(MOST_CASES)),
+            "circuits": HEAD + "".join(f"fibre {number},1,9,0,1,0,,c{number},\n" for number in range(CIRCUITS + 1)),
             "bytes": HEAD + "#" * CASES.bytes,
             "short": HEAD + "fibre 1\n",
             "heads": "Failures\nfibre 1\n",

@@ -339,7 +339,7 @@ class All(Asking):
             ((*teller, TELLER, "--kinds", "span"), "--all has all kinds"),
             ((*teller, TELLER, "--frames", "cut 6 east"), "no case has these steps or failures"),
             ((*teller, TELLER, "--against", "none.csv"), "none.csv: No such file"),
-            ((*teller, TELLER, "--against", str(self.plan.with_name("bad.csv"))), "a table of --all is wanted, with the columns Failures, Over circuits"),
+            ((*teller, TELLER, "--against", str(self.plan.with_name("bad.csv"))), "a table of --all is wanted, with the columns Failures, Depth, Kept, "),
             ((*teller, self.script("none", "echo usage; exit 2")), "writes no table: status 2, usage"),
             ((*teller, self.script("bad", "echo bad plan 27 at 4; exit 6")), "bad plan 27 at 4: the moment lies before the one that was set last"),
             ((*teller, self.script("half", f'{TELLER} "$@" | head -5')), "writes no table: "),

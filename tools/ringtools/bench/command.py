@@ -17,6 +17,7 @@ from ..files import FileProblem, read_input
 from ..options import Options, decimal_number, whole_number
 from ..origin import LAUNCHER, CannotRun, Program, program_of
 from ..plan import Plan, PlanProblem, read_plan
+from ..plans import tell_unnamed
 from ..progress import Progress
 from ..report import ReportProblem
 from ..running import processors
@@ -217,6 +218,7 @@ def main(words: Sequence[str]) -> int:
     try:
         document = read_input(asked.plan)
         bench = Bench(asked, read_plan(document), document)
+        tell_unnamed(TOOL, asked.plan, bench.plan)
         places = places_of(asked, bench.plan)
         if asked.keep and not places:
             raise CannotRun("--keep writes what your own nodes were given and answered, and no node is one: --instead or --connect names it")

@@ -7,7 +7,7 @@ from dataclasses import dataclass, field
 from pathlib import Path
 
 from ..cells import read_cell, text_of_rows
-from ..files import MEBIBYTE, Limit, read_input
+from ..files import MEBIBYTE, Limit, found_in, is_there, read_input
 from ..tables import TableProblem
 from .model import NetworkProblem
 from .telling import CUSTOMERS, LOST, SINGLES
@@ -35,10 +35,10 @@ class Answer:
         return self.fates.get(case, {}).get(customer, before)
 
 
-def rows_of(path: Path, columns: tuple[str, ...]) -> Iterator[dict[str, str]]:
+def rows_of(path: str, columns: tuple[str, ...]) -> Iterator[dict[str, str]]:
     """Yields the records of a table that `whatif` wrote, or raises a TableProblem."""
     try:
-        rows = csv.reader(io.StringIO(read_input(str(path), ANSWER).decode("utf-8"), newline=""), strict=True)
+        rows = csv.reader(io.StringIO(read_input(path, ANSWER).decode("utf-8"), newline=""), strict=True)
         if tuple(next(rows, ())) != columns:
             raise TableProblem(
                 f"{path}: the columns {', '.join(columns)} are wanted, as `sdhring-network whatif` writes them"
@@ -51,20 +51,55 @@ def rows_of(path: Path, columns: tuple[str, ...]) -> Iterator[dict[str, str]]:
         raise TableProblem(f"{path}: {problem}") from None
 
 
+def number_in(row: dict[str, str], column: str) -> int:
+    cell = row[column]
+    return int(cell) if cell.isascii() and cell.isdecimal() and len(cell) <= 9 else -1
+
+
+def read_singles(answer: Answer, path: str) -> dict[str, int]:
+    """Takes the failures of a table into the answer, whose customers are known; returns how many are lost by each."""
+    lost: dict[str, int] = {}
+    for row in rows_of(path, SINGLES):
+        counts = [number_in(row, column) for column in ("kept", "impaired", "over", "lost")]
+        if min(counts) < 0 or sum(counts) != len(answer.customers):
+            raise TableProblem(f"{path}: `{row['failure']}`: kept, impaired, over and lost aren't the {len(answer.customers)} customers")
+        if row["failure"] in lost:
+            raise TableProblem(f"{path}: `{row['failure']}` stands twice")
+        lost[row["failure"]] = counts[3]
+    answer.failures = set(lost)
+    return lost
+
+
+def check_lost(answer: Answer, singles: dict[str, int], path: str) -> None:
+    """Raises unless the records of who is lost are of these failures and customers, and as many as the failures' own records say."""
+    known = set(answer.customers)
+    before = {name for name, fate in answer.fates.get(("", ""), {}).items() if fate == "lost"}
+    for (failure, other), fates in answer.fates.items():
+        if strange := [name for name in (failure, other) if name and name not in singles] or sorted(set(fates) - known):
+            raise TableProblem(f"{path}: `{strange[0]}` is in no other of the tables")
+    for failure, count in singles.items():
+        named = before | {name for name, fate in answer.fates.get((failure, ""), {}).items() if fate == "lost"}
+        if len(named) != count:
+            raise TableProblem(f"{path}: `{failure}`: {len(named)} are lost here, and {count} by singles.csv")
+
+
 def answer_in(folder: Path) -> Answer:
     """Returns the answer whose tables lie in a folder."""
     for name in NEEDED:
-        if not (folder / name).is_file():
+        if not is_there(folder / name):
             raise NetworkProblem(
                 f"{folder / name} is missing: --against names a network, or the folder of an earlier `whatif` without --summary"
             )
     answer = Answer()
-    answer.failures = {row["failure"] for row in rows_of(folder / "singles.csv", SINGLES)}
-    answer.customers = [row["customer"] for row in rows_of(folder / "customers.csv", CUSTOMERS)]
-    for row in rows_of(folder / "lost.csv", LOST):
+    answer.customers = list(dict.fromkeys(row["customer"] for row in rows_of(found_in(folder, "customers.csv"), CUSTOMERS)))
+    singles = read_singles(answer, found_in(folder, "singles.csv"))
+    for row in rows_of(found_in(folder, "lost.csv"), LOST):
         fates = answer.fates.setdefault((row["failure"], row["other"]), {})
+        if row["fate"] not in ("lost", "impaired"):
+            raise TableProblem(f"{folder / 'lost.csv'}: `{row['fate']}` is neither lost nor impaired")
         if fates.get(row["customer"]) != "lost":
             fates[row["customer"]] = row["fate"]
+    check_lost(answer, singles, str(folder / "lost.csv"))
     return answer
 
 

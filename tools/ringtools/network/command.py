@@ -9,7 +9,7 @@ from dataclasses import replace
 from pathlib import Path
 
 from ..cells import text_of_rows
-from ..files import FileProblem
+from ..files import FileProblem, is_there
 from ..making import MakingProblem
 from ..options import Options
 from ..origin import TELLER, CannotRun, Program, program_of
@@ -105,7 +105,7 @@ def tell_room(asked: argparse.Namespace) -> int:
 def tell_added(asked: argparse.Namespace) -> int:
     """Says of each circuit of a table whether it fits beside what is in service, and where. No file is written."""
     service = service_of(folder_of(asked.network))
-    wishes, notes = read_more(Path(asked.circuits), service.network)
+    wishes, notes = read_more(asked.circuits, service.network)
     columns, rows, words, fits = added_to(service, wishes)
     tell_table(columns, rows)
     for note in [*notes, words]:
@@ -279,6 +279,8 @@ def write_against(asked: argparse.Namespace, question: Question, folder: Folder)
         moves = list(moved(Provisioned(there, beside.network), Provisioned(question.folder, question.network)))
         found["moves.csv"] = text_of_rows([MOVES, *moves])
         say(f"beside {shown(asked.against)}: {words_of(moves, len(question.network.customers))}")
+    else:
+        say(f"beside {shown(asked.against)}: tables, and it isn't known who wrote them: their rows add up, and nothing else of them was looked at")
     table, words = compared(answer_in(other), answer_in(folder.path))
     for name, text in ({"against.csv": table} | found).items():
         folder.write(name, text)
@@ -302,11 +304,11 @@ def availability(asked: argparse.Namespace) -> int:
 
 def rates_of(asked: argparse.Namespace, folder: Path, network: Network) -> tuple[Rates | None, list[str]]:
     """The rates of a network's tables where all are there, and what is to be said of them."""
-    if not (folder / "spans.csv").is_file():
+    if not is_there(folder / "spans.csv"):
         return None, []
     try:
         rates = read_rates(folder, network, asked.cuts_per_1000_km)
-    except (TableProblem, NetworkProblem) as problem:
+    except (TableProblem, NetworkProblem, FileProblem) as problem:
         return None, [f"no availability: {problem}"]
     return rates, rates.unread
 

@@ -1,11 +1,12 @@
 """The document of a network, `network.toml`: which plans its rings have, over which sections customers go, and which groups fail as one."""
 
 import json
+from collections import Counter
 from pathlib import Path
 from typing import Any
 
 from ..checks import is_name
-from ..files import MEBIBYTE, FileProblem, Limit, read_input
+from ..files import MEBIBYTE, FileProblem, Limit, found_in, read_input
 from ..markup import count_of
 from ..plan import PlanProblem, read_document
 from .members import Members
@@ -18,6 +19,7 @@ KEYS = {
     "group": {"name", "members", "failures", "hours"},
 }
 MOST_NODES = 16
+MOST_GROUPS = 64  # that touch a ring: as many as a ring's own table of groups has rows
 DOCUMENT = Limit("a network's document", 24 * MEBIBYTE)
 
 
@@ -171,20 +173,24 @@ def check_sections(network: Network) -> None:
 
 
 def check_groups(network: Network) -> None:
-    members = Members(network)
+    """Raises where a group names what isn't there, or where more groups touch a ring than are asked about: each two of them are."""
+    members, touching = Members(network), Counter()
     for group in network.groups:
-        for member in group.members:
-            try:
-                members.parts(member)
-            except NetworkProblem as problem:
-                raise NetworkProblem(f"group {group.name}: {problem}") from None
+        try:
+            parts = [part for member in group.members for part in members.parts(member)]
+        except NetworkProblem as problem:
+            raise NetworkProblem(f"group {group.name}: {problem}") from None
+        touching.update({part.ring for part in parts})
+    for number, count in touching.most_common(1):
+        if count > MOST_GROUPS:
+            raise NetworkProblem(f"{count:,} groups touch ring {network.rings[number].name}, and at most {MOST_GROUPS} may")
 
 
 def read_network(name: str) -> Network:
     """Returns the network of a folder or a document, or raises a NetworkProblem that names the file."""
     path = file_of(name)
     try:
-        return network_of(read_input(str(path), DOCUMENT))
+        return network_of(read_input(found_in(name, FILE) if path.parent == Path(name) else str(path), DOCUMENT))
     except (FileProblem, NetworkProblem) as problem:
         words = str(problem)
         raise NetworkProblem(words if words.startswith(str(path)) else f"{path}: {words}") from None

@@ -11,7 +11,7 @@ from .tables import Wish, read_wishes
 COLUMNS = ("circuit", "from", "to", "fits", "rings", "changes", "slots", "problem")
 
 
-def read_more(file: Path, network: Network) -> tuple[list[Wish], list[str]]:
+def read_more(file: str, network: Network) -> tuple[list[Wish], list[str]]:
     """Returns the circuits of a table that are to come, and notes of what isn't read. A name that is in service is refused."""
     notes: list[str] = []
     known = {key_of(customer.name) for customer in network.customers}

@@ -5,14 +5,14 @@ from dataclasses import dataclass, field, replace
 from pathlib import Path
 
 from ..checks import plain_name
-from ..files import FileProblem, read_input
+from ..files import FileProblem, found_in, is_there, read_input
 from ..importing import apart
 from ..making import Asked, Written, document_of, text_of
 from ..markup import count_of
-from ..places import PlaceProblem, read_places
+from ..places import PlaceProblem
 from ..plan import Circuit, Plan, PlanProblem, Port, read_plan
 from ..slots import Laid, Wanted
-from .document import read_network, written
+from .document import check_groups, read_network, written
 from .fitting import Fitted, Fitting, Placed, RingLoad
 from .model import Customer, Group, Network, NetworkProblem, Ring, Section, key_of
 from .tables import LARGE, Tables, Wish
@@ -51,10 +51,11 @@ class Service:
 
 def plan_of(folder: Path, ring: Ring) -> tuple[Plan, bytes]:
     """Returns the plan of a ring and its bytes, held against the network's document, or raises a NetworkProblem."""
-    path = folder / ring.file
+    path = found_in(folder, ring.file)
     try:
-        data = read_input(str(path))
-        plan, places = read_plan(data), read_places(data)
+        data = read_input(path)
+        plan = read_plan(data)
+        places = plan.clear_places()
     except FileProblem as problem:
         raise NetworkProblem(str(problem)) from None
     except (PlanProblem, PlaceProblem) as problem:
@@ -285,8 +286,9 @@ def made_of(tables: Tables, settings: Settings, service: Service | None = None) 
     if fitted.misfits:
         raise NetworkProblem(misfit_words(fitted, len(wishes)))
     made = maker.made(wishes, fitted, tables.groups, tables.notes)
+    check_groups(made.network)
     made.files |= {
-        name: read_input(str(tables.folder / name), LARGE) for name in COPIED if (tables.folder / name).is_file()
+        name: read_input(found_in(tables.folder, name), LARGE) for name in COPIED if is_there(tables.folder / name)
     }
     made.notes = [*summary(made, wishes), *tables.notes]
     return made

@@ -19,7 +19,7 @@ from dataclasses import dataclass
 from pathlib import Path
 from typing import Any
 
-from ..files import FileProblem, read_input
+from ..files import FileProblem, found_in, is_there, read_input
 from ..origin import CannotRun, Program
 from ..progress import Progress
 from ..kept import HERE
@@ -65,8 +65,9 @@ class Question:
 
     def files(self) -> Iterator[tuple[str, bytes]]:
         """Yields the document and each plan, by their names."""
-        for name in (FILE, *(ring.file for ring in self.network.rings)):
-            yield name, read_input(str(self.folder / name), DOCUMENT)
+        yield FILE, read_input(found_in(self.folder, FILE), DOCUMENT)
+        for ring in self.network.rings:
+            yield ring.file, read_input(found_in(self.folder, ring.file))
 
     def components(self) -> Components:
         return Components(self.network, self.kinds)
@@ -369,6 +370,6 @@ def in_parts(
 def folder_of(name: str) -> Path:
     """Returns the folder of a network that is named by itself or by its document."""
     path = file_of(name)
-    if not path.is_file():
+    if not is_there(path):
         raise FileProblem(f"{path}: there is no such file; `sdhring-network import` writes a network's folder")
     return path.parent

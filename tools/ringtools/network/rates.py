@@ -3,6 +3,7 @@
 from dataclasses import dataclass
 from pathlib import Path
 
+from ..files import found_in, is_there
 from ..components import HOURS, REPAIR, cuts_of, fibre_rates, needed
 from ..tables import Row, TableProblem
 from .components import Components, side_name
@@ -34,7 +35,7 @@ class Rated:
         return 1 / (1 + self.rate * self.hours / HOURS)
 
 
-def of_spans(file: Path, network: Network, per_1000_km: float | None) -> list[Rated]:
+def of_spans(file: str, network: Network, per_1000_km: float | None) -> list[Rated]:
     """Each span, and its two fibres where they fail by themselves too."""
     table, rows = span_rows(file, network)
     found: list[Rated] = []
@@ -67,7 +68,7 @@ def of_fibres(row: Row, network: Network, number: int, span: int) -> list[Rated]
     ]
 
 
-def of_places(file: Path, network: Network) -> list[Rated]:
+def of_places(file: str, network: Network) -> list[Rated]:
     """Each place once; where it is down its nodes are lost in all rings that come there."""
     _, rows = place_rows(file, network)
     found = []
@@ -102,18 +103,18 @@ class Rates:
 
 def read_rates(folder: Path, network: Network, per_1000_km: float | None = None) -> Rates:
     """Returns the components of the tables in a network's folder: spans.csv, and nodes.csv where it is there; groups are those of the document."""
-    spans, nodes = folder / SPANS, folder / NODES
-    if not spans.is_file():
+    spans, nodes = found_in(folder, SPANS), found_in(folder, NODES)
+    if not is_there(spans):
         raise TableProblem(
             f"{spans} is missing, which has ring,from,to, the cuts a year or km, and the hours of a repair"
         )
     found = of_spans(spans, network, per_1000_km)
     tables = [span_rows(spans, network)[0]]
-    if nodes.is_file():
+    if has_nodes := is_there(nodes):
         found += of_places(nodes, network)
         tables.append(place_rows(nodes, network)[0])
     unread = [note for table in tables for note in table.notes()]
-    return Rates(found + of_groups(network), unread, nodes.is_file())
+    return Rates(found + of_groups(network), unread, has_nodes)
 
 
 def ends_at(component: Rated, ring: int, at: int) -> bool:

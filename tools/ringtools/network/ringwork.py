@@ -10,7 +10,7 @@ from dataclasses import dataclass, field
 from pathlib import Path
 from typing import Any
 
-from ..files import read_input
+from ..files import found_in, read_input
 from .asking import NOTHING, Asker, Fate, RingCases
 from .components import Component
 from .model import Kind, Network, Ring
@@ -50,7 +50,7 @@ def base_of(asker: Asker, folder: Path) -> Base:
     """Returns what the scripts of all rings leave. Only rings whose script does something are asked about."""
     base = Base()
     for ring in asker.network.rings:
-        if rests(read_input(str(folder / ring.file))):
+        if rests(read_input(found_in(folder, ring.file))):
             continue
         cases = asker.singles(ring)
         for mask, found in zip(

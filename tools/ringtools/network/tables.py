@@ -11,8 +11,8 @@ from ..checks import is_sent
 from ..components import fibre_rates
 from ..importing import DIRECTIONS
 from ..markup import count_of
-from ..places import why_no_name
-from ..files import MEBIBYTE, Limit
+from ..places import why_no_name, why_no_place
+from ..files import MEBIBYTE, Limit, found_in, is_there
 from ..tables import Row, Table, TableProblem, read_table
 from .members import Members
 from .model import INDEX, Group, Network, NetworkProblem, Ring, key_of
@@ -121,13 +121,12 @@ def check_name(row: Row, column: str, name: str) -> None:
 
 
 def check_place(row: Row, place: str) -> None:
-    if place.isdecimal():
-        raise row.problem(f"`places` has `{place}`, and a number alone would be read as a node's identifier")
-    check_name(row, "places", place)
+    if why := why_no_place(place):
+        raise row.problem(f"`places` has `{place}`, and {why}")
 
 
-def read_rings(file: Path, notes: list[str]) -> list[RingRow]:
-    table: Table = read_table(str(file), RING_COLUMNS, RING_COLUMNS, ROWS, LARGE)
+def read_rings(file: str, notes: list[str]) -> list[RingRow]:
+    table: Table = read_table(file, RING_COLUMNS, RING_COLUMNS, ROWS, LARGE)
     found: list[RingRow] = []
     seen: dict[str, int] = {}
     notes += table.notes()
@@ -212,9 +211,9 @@ def wishes_in(row: Row, name: str, network: Network) -> list[Wish]:
     ]
 
 
-def read_wishes(file: Path, network: Network, notes: list[str]) -> list[Wish]:
+def read_wishes(file: str, network: Network, notes: list[str]) -> list[Wish]:
     """Each circuit that a table wants. Names are given to those without: c1, c2 and so on."""
-    table: Table = read_table(str(file), CIRCUIT_COLUMNS, ("from", "to"), ROWS, LARGE)
+    table: Table = read_table(file, CIRCUIT_COLUMNS, ("from", "to"), ROWS, LARGE)
     found: list[Wish] = []
     seen: dict[str, int] = {}
     notes += table.notes()
@@ -260,9 +259,9 @@ def complete(file: str, missing: list[str]) -> None:
         )
 
 
-def span_rows(file: Path, network: Network) -> tuple[Table, dict[tuple[int, int], Row]]:
+def span_rows(file: str, network: Network) -> tuple[Table, dict[tuple[int, int], Row]]:
     """The row of each span of the network; a span without a row and one with two are refused."""
-    table: Table = read_table(str(file), SPAN_COLUMNS, ("ring", "from", "to"), ROWS, LARGE)
+    table: Table = read_table(file, SPAN_COLUMNS, ("ring", "from", "to"), ROWS, LARGE)
     found: dict[tuple[int, int], Row] = {}
     for row in table.rows:
         span = span_of(row, network)
@@ -278,9 +277,9 @@ def span_rows(file: Path, network: Network) -> tuple[Table, dict[tuple[int, int]
     return table, found
 
 
-def place_rows(file: Path, network: Network) -> tuple[Table, dict[str, Row]]:
+def place_rows(file: str, network: Network) -> tuple[Table, dict[str, Row]]:
     """The row of each place, by the place's key."""
-    table: Table = read_table(str(file), NODE_COLUMNS, NODE_COLUMNS, ROWS, LARGE)
+    table: Table = read_table(file, NODE_COLUMNS, NODE_COLUMNS, ROWS, LARGE)
     found: dict[str, Row] = {}
     for row in table.rows:
         key = key_of(place_in(row, "place", network))
@@ -291,7 +290,7 @@ def place_rows(file: Path, network: Network) -> tuple[Table, dict[str, Row]]:
     return table, found
 
 
-def read_lengths(file: Path, network: Network, notes: list[str]) -> dict[tuple[int, int], float]:
+def read_lengths(file: str, network: Network, notes: list[str]) -> dict[tuple[int, int], float]:
     """The lengths of all spans in km; none where a row has none. All other cells are looked at too, as for availability."""
     table, rows = span_rows(file, network)
     notes += table.notes()
@@ -309,8 +308,8 @@ def read_lengths(file: Path, network: Network, notes: list[str]) -> dict[tuple[i
     return found
 
 
-def read_groups(file: Path, network: Network, notes: list[str]) -> list[Group]:
-    table: Table = read_table(str(file), GROUP_COLUMNS, ("group", "members"), ROWS, LARGE)
+def read_groups(file: str, network: Network, notes: list[str]) -> list[Group]:
+    table: Table = read_table(file, GROUP_COLUMNS, ("group", "members"), ROWS, LARGE)
     found: list[Group] = []
     seen: dict[str, int] = {}
     notes += table.notes()
@@ -344,27 +343,27 @@ def read_groups(file: Path, network: Network, notes: list[str]) -> list[Group]:
 def read_tables(folder: Path) -> Tables:
     """Returns what the tables of a folder say: rings.csv and circuits.csv, and spans.csv, nodes.csv and groups.csv where they are there."""
     for name in ("rings.csv", "circuits.csv"):
-        if not (folder / name).is_file():
+        if not is_there(folder / name):
             raise TableProblem(
                 f"{folder}: {name} is missing; rings.csv has ring,rate,places and circuits.csv has name,from,to"
             )
     tables = Tables(folder, [], [], [])
-    tables.rings = read_rings(folder / "rings.csv", tables.notes)
+    tables.rings = read_rings(found_in(folder, "rings.csv"), tables.notes)
     network = tables.network
-    if (folder / "spans.csv").is_file():
-        tables.lengths = read_lengths(folder / "spans.csv", network, tables.notes)
-    if (folder / "nodes.csv").is_file():
-        table, rows = place_rows(folder / "nodes.csv", network)
+    if is_there(spans := found_in(folder, "spans.csv")):
+        tables.lengths = read_lengths(spans, network, tables.notes)
+    if is_there(nodes := found_in(folder, "nodes.csv")):
+        table, rows = place_rows(nodes, network)
         tables.notes += table.notes()
         for row in rows.values():
             row.number("failures"), row.number("hours")
-    if (folder / "groups.csv").is_file():
-        tables.groups = read_groups(folder / "groups.csv", network, tables.notes)
+    if is_there(groups := found_in(folder, "groups.csv")):
+        tables.groups = read_groups(groups, network, tables.notes)
     known = {"rings.csv", "circuits.csv", "spans.csv", "nodes.csv", "groups.csv"}
     tables.notes += [
         f"{file}: not read: a network's tables are {', '.join(sorted(known))}"
         for file in sorted(folder.glob("*.csv"))
         if file.name not in known
     ]
-    tables.wishes = read_wishes(folder / "circuits.csv", network, tables.notes)
+    tables.wishes = read_wishes(found_in(folder, "circuits.csv"), network, tables.notes)
     return tables

@@ -14,6 +14,7 @@ from ..inshort import FAILED_ON
 from ..options import Options
 from ..origin import TELLER, CannotRun, Origin, now, program_of, sum_of
 from ..plan import PlanProblem, read_plan
+from ..plans import tell_unnamed
 from ..shown import say as say_of
 from ..shown import shown
 from ..tables import TableProblem
@@ -56,6 +57,7 @@ def told_of(asked: argparse.Namespace, data: bytes) -> Told:
         plan = read_plan(data)
     except PlanProblem as problem:
         raise PlanProblem(f"{asked.plan}: {problem}") from None
+    tell_unnamed("sdhring-now", asked.plan, plan)
     lengths, notes = read_lengths(asked.spans, plan) if asked.spans else (None, [])
     listing, program = Listing(asked.alarms), program_of(asked.teller, TELLER)
     read = read_alarms(plan, listing.records, [*listing.notes, *notes])

@@ -12,18 +12,23 @@ from ..plan import Plan
 SIDE, SPAN, FIBRE, AT_NODE = "side", "span", "fibre", "node"
 NO_NODE = "it names no node of the ring"
 MOST = 16  # nodes that are found in a text
-BEFORE = r"(?<![\w.:])"
+BEFORE = r"(?<![\w.:])(?<!\s[-+–−])(?<!^[-+–−])"  # a sign makes another number of it
+AFTER = r"(?!\w|[.,:]\d)"
+NODE_WORDS = "node|ne|site|knoten|station"
 # Numbers that are no nodes: of shelves, of ports, of rates, and moments.
 OTHERS = re.compile(
     r"(?<!\w)(?:(?:port|slot|card|shelf|rack|unit|board|line|channel|au|vc|stm|nr|no|id|alarm)[\s#:._/-]*\d+(?:[./-]\d+)*)(?!\w)"
     r"|\b\d{4}-\d\d-\d\d\b|\b\d{1,2}/\d{1,2}/\d{2,4}\b|\b\d{1,2}\.\d{1,2}\.(?:\d{2,4})?(?!\d)|\b\d{1,2}:\d\d(?::\d\d(?:\.\d+)?)?(?:z\b)?|\d{4}-\d\d-\d\dt[\d:.]+z?"
 )
 NUMBERED = (
-    re.compile(r"(?<!\w)(?:node|ne|site|knoten|station)[\s#:-]*(\d{1,3})(?!\w)"),
-    re.compile(rf"{BEFORE}(\d{{1,3}})(?=\s*(?:-|–|—|->|<->|→|>|/|to|towards|nach)\s*(?:node |ne )?\d{{1,3}}(?![\w.:]))"),
-    re.compile(r"(?<=[\d\x01])\s*(?:-|–|—|->|<->|→|>|/|to|towards|nach)\s*(?:node |ne )?(\d{1,3})(?![\w.:])"),
-    re.compile(rf"{BEFORE}(\d{{1,3}})(?=\s*[-/ _]?(?:east|west|ost|e|w)(?!\w))"),
+    re.compile(rf"(?<!\w)(?:{NODE_WORDS})(?:[\s#:]*|-)([0-9]{{1,3}}){AFTER}"),
+    re.compile(rf"{BEFORE}([0-9]{{1,3}})(?=\s*(?:-|–|—|->|<->|→|>|/|to|towards|nach)\s*(?:node |ne )?[0-9]{{1,3}}(?![\w.:]))"),
+    re.compile(r"(?<=[0-9\x01])\s*(?:-|–|—|->|<->|→|>|/|to|towards|nach)\s*(?:node |ne )?([0-9]{1,3})(?![\w.:])"),
+    re.compile(rf"{BEFORE}([0-9]{{1,3}})(?=\s*[-/ _]?(?:east|west|ost|e|w)(?!\w))"),
 )
+AFTER_NUMBER = re.compile(r"[0-9][\s/_.-]*$")
+# What stands where the number of a node would, and is none: `node -1`, `node 1.5`, `node 2x`.
+NO_NUMBER = re.compile(rf"(?<!\w)(?:{NODE_WORDS})[\s#:]*([^\s;,]*\d[^\s;,]*)")
 MARK = "\x01"  # stands where a node was found
 WAYS = {"east": "east", "e": "east", "ost": "east", "eastward": "east", "eastwards": "east", "west": "west", "w": "west", "westward": "west", "westwards": "west"}
 WORD = re.compile(r"(?<!\w)(east(?:wards?)?|west(?:wards?)?|ost)(?!\w)")
@@ -68,6 +73,14 @@ def put(found: list[tuple[int, int, int]], begin: int, end: int, at: int) -> Non
         found.append((begin, end, at))
 
 
+def check_letters(text: str, named: list[tuple[int, int]]) -> None:
+    """Raises NoPlace where the name of a place is a side's letter too, and stands where a side would: after a number, or right after a place."""
+    for begin, end in named:
+        word, before = text[begin:end], text[:begin]
+        if word in WAYS and (AFTER_NUMBER.search(before) or any(other == len(before.rstrip(" _")) for _, other in named)):
+            raise NoPlace(f"`{word}` may be the place of that name, or the side {WAYS[word]}: write the side as a word, and the node by its number")
+
+
 class Finder:
     """Finds places in texts in small letters."""
 
@@ -82,6 +95,7 @@ class Finder:
         for pattern, at in self.named:
             for match in pattern.finditer(text):
                 put(found, *match.span(), at)
+        check_letters(text, [(begin, end) for begin, end, _ in found])
         shown = list(text)
         for begin, end, _ in found:
             shown[begin:end] = MARK * (end - begin)
@@ -91,7 +105,9 @@ class Finder:
         found.sort()
         for begin, end, _ in reversed(found):
             text = f"{text[:begin]}{MARK}{text[end:]}"
-        return re.sub(r"(?<!\w)(?:node|ne|site|knoten|station)[\s#:-]*(?=\x01)", "", text), [at for *_, at in found]
+        if wrong := NO_NUMBER.search(text):
+            raise NoPlace(f"`{wrong[1].replace(MARK, '..')}` is no node of the ring")
+        return re.sub(rf"(?<!\w)(?:{NODE_WORDS})[\s#:-]*(?=\x01)", "", text), [at for *_, at in found]
 
     def at(self, number: int) -> int:
         if number not in self.plan.ids:
