@@ -15,7 +15,8 @@ _sdhring_words() {
     sdhaps:3:frames) mapfile -t COMPREPLY < <(compgen -W "west east" -- "$word") ;;
     sdhnode:2:*) mapfile -t COMPREPLY < <(compgen -W "frames lines" -- "$word") ;;
     sdhretime:1:* | sdhnode:1:*) mapfile -t COMPREPLY < <(compgen -W "$1" -- "$word") ;;
-    *:*:--install | *:*:--uninstall) compopt -o dirnames ;;
+    *:2:--install | *:2:--uninstall) compopt -o dirnames ;;
+    *:3:--install) mapfile -t COMPREPLY < <(compgen -W '--replace' -- "$word") ;;
   esac
   # After `<` comes the plan.
   [ "${COMP_WORDS[COMP_CWORD - 1]}" != '<' ] || { COMPREPLY=() && compopt -o default; }

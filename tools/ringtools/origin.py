@@ -120,9 +120,9 @@ def build_beside(file: Path) -> Path:
     return file.with_name(f"{file.name}.BUILD")
 
 
-def launched_record(file: Path) -> Record | None:
-    """Returns what is known of a program's file that this place's own launcher chose, or None."""
-    return record_of_sum(sum_of_file(file), [build_beside(file)])
+def launched_record(file: Path, sum: str) -> Record | None:
+    """Returns what is known of a program's file of this checksum that this place's own launcher chose, or None."""
+    return record_of_sum(sum, [build_beside(file)])
 
 
 def known_program(words: Sequence[str], sum: str, more: Sequence[Path] = ()) -> Program:

@@ -55,7 +55,7 @@ License: none-chosen
 PRERM = """\
 #!/bin/sh
 set -e
-rm -rf /usr/lib/sdhring/tools/ringtools/__pycache__ /usr/lib/sdhring/tools/ringtools/bench/__pycache__ /usr/lib/sdhring/tools/ringtools/conform/__pycache__ /usr/lib/sdhring/tools/ringtools/network/__pycache__
+rm -rf /usr/lib/sdhring/tools/ringtools/__pycache__ /usr/lib/sdhring/tools/ringtools/bench/__pycache__ /usr/lib/sdhring/tools/ringtools/conform/__pycache__ /usr/lib/sdhring/tools/ringtools/network/__pycache__ /usr/lib/sdhring/tools/ringtools/now/__pycache__
 """
 
 
@@ -210,11 +210,21 @@ def member(name, piece, moment):
     return head
 
 
+def folder_member(name: str, moment: int) -> tarfile.TarInfo:
+    """Returns the head of a folder in an archive, without which it would get what rights the user's mask leaves."""
+    head = tarfile.TarInfo(name)
+    head.type, head.mtime, head.mode = tarfile.DIRTYPE, moment, 0o755
+    return head
+
+
 def tarball(moment: int) -> bytes:
     """Returns the tarball's bytes."""
-    top, whole = f"sdhring-{version()}-{PLATFORM}", io.BytesIO()
+    top, whole, files = f"sdhring-{version()}-{PLATFORM}", io.BytesIO(), tree()
+    folders = {str(parent) for name in files for parent in Path(f"{top}/{name}").parents} - {"."}
     with tarfile.open(fileobj=whole, mode="w", format=tarfile.GNU_FORMAT) as archive:
-        for name, piece in sorted(tree().items()):
+        for name in sorted(folders):
+            archive.addfile(folder_member(name, moment))
+        for name, piece in sorted(files.items()):
             archive.addfile(member(f"{top}/{name}", piece, moment), io.BytesIO(piece.data))
     return lzma.compress(whole.getvalue(), preset=9 | lzma.PRESET_EXTREME)
 

@@ -14,6 +14,7 @@ from collections.abc import Callable
 from pathlib import Path
 from typing import NoReturn
 
+from . import modules_are_loaded
 from .files import FileProblem, begin_run
 from .shown import say, shown_lines
 
@@ -131,6 +132,7 @@ def end_with_reader() -> NoReturn:
 
 def start(main: Main, failed: int = FAILED) -> NoReturn:
     """Runs main with the words of the command line, and ends with its status; `failed` is that for a file's trouble."""
+    modules_are_loaded()
     open_standard_files()
     begin_run()
     try:

@@ -7,6 +7,7 @@ is followed only where it is the user's own or root's: another user's link would
 """
 
 import errno
+import hashlib
 import io
 import os
 import pwd
@@ -29,6 +30,10 @@ MOST_LINKS = 40  # on the way to a folder, as the system has it
 
 class WriteProblem(FileProblem):
     """A file can't be written where it was to be, or isn't for safety."""
+
+
+class NotThere(WriteProblem):
+    """A folder isn't there."""
 
 
 class IsThere(WriteProblem):
@@ -55,7 +60,7 @@ def problem_of(path: Path, error: OSError) -> WriteProblem:
     """Returns what to say of an error at a path."""
     if path.is_symlink() and error.errno in (errno.ELOOP, errno.ENOTDIR):
         return WriteProblem(f"{path} is a link to {os.readlink(path)}, and nothing is written through links; name that folder itself")
-    return WriteProblem(f"{path}: {error.strerror}")
+    return (NotThere if error.errno == errno.ENOENT else WriteProblem)(f"{path}: {error.strerror}")
 
 
 def open_inner(path: Path, name: str, within: int) -> int:
@@ -144,7 +149,7 @@ def open_way(path: Path, may_end_in_link: bool = False, mode: int | None = None,
         begin = os.open("/" if text.startswith("/") else ".", FOLDER)
         return Way(path, begin, list(reversed(text.split("/"))), may_end_in_link, mode, last_mode).gone()
     except OSError as error:
-        raise WriteProblem(f"{path}: {error.strerror}") from None
+        raise (NotThere if error.errno == errno.ENOENT else WriteProblem)(f"{path}: {error.strerror}") from None
     except ValueError:
         raise WriteProblem(f"{text!r}: this is no name of a folder") from None
 
@@ -303,6 +308,20 @@ class Folder:
             finally:
                 os.close(descriptor)
         return None if data is None or len(data) > most else data
+
+    def mark(self, name: str, most: int) -> str:
+        """Returns what stands at a name: the checksum of a file, `->` and where a link leads, or `other`; nothing where nothing does."""
+        with self.opened() as folder:
+            try:
+                mode = os.stat(name, dir_fd=folder, follow_symlinks=False).st_mode
+                if stat.S_ISLNK(mode):
+                    return f"-> {os.readlink(name, dir_fd=folder)}"
+            except FileNotFoundError:
+                return ""
+            except OSError as error:
+                raise problem_of(self.path / name, error) from None
+        data = self.read(name, most) if stat.S_ISREG(mode) else None
+        return "other" if data is None else hashlib.sha256(data).hexdigest()
 
     def remove(self, name: str) -> None:
         """Takes a file or a link away, where there is one."""

@@ -72,7 +72,7 @@ class Installed(Released):
 
     def test_every_file_is_listed(self):
         found = {str(path.relative_to(self.prefix)) for path in self.prefix.rglob("*") if not path.is_dir() and "__pycache__" not in path.parts}
-        self.assertEqual(found, set((self.prefix / "lib" / "sdhring" / "FILES").read_text().splitlines()))
+        self.assertEqual(found, {"lib/sdhring/FILES", *(line.split("  ", 1)[1] for line in (self.prefix / "lib" / "sdhring" / "FILES").read_text().splitlines() if not line.startswith("folder"))})
         wanted = {f"bin/{name}" for name in (*PROGRAMS, *TOOLS)} | {f"share/man/man1/{name}.1" for name in (*PROGRAMS, *TOOLS)}
         wanted |= {f"share/bash-completion/completions/{name}" for name in (*PROGRAMS, *TOOLS)} | {f"lib/sdhring/{name}" for name in (*PROGRAMS, "BUILD")}
         wanted |= {f"share/doc/sdhring/{name}" for name in ("README.md", "CHANGELOG.md", "FORMATS.md", "WORDS.md", "examples/span-cut.toml")}
@@ -263,6 +263,17 @@ class Packed(Released):
         prefix = self.folder / "from a tarball"
         self.ended(run([top / "sdhring", "--install", prefix], top, python_path()))
         self.assertEqual(run([prefix / "bin" / "sdhwatch", "run"], top).stdout, "sdhwatch ran run\n")
+
+    def test_a_tarball_has_the_rights_of_its_folders(self):
+        """So that they are what they are for everybody, whatever the user's mask is as it is unpacked."""
+        path = next(path for name, path in self.packed("rights").items() if name.endswith(".tar.xz"))
+        with tarfile.open(path) as archive:
+            members = archive.getmembers()
+        folders = {one.name for one in members if one.isdir()}
+        self.assertEqual({one.mode for one in members if one.isdir()}, {0o755})
+        self.assertEqual({str(parent) for one in members for parent in Path(one.name).parents} - {"."}, folders)
+        names = [one.name for one in members]
+        self.assertTrue(all(names.index(str(Path(name).parent)) < names.index(name) for name in names if "/" in name))
 
     def check_commands(self, top, folder, path=None):
         """The commands of README's section on running it: those that a user types, each of which ends well."""

@@ -16,7 +16,7 @@ from checkouts import make_checkout, release
 from common import STANDIN, TOOLS, bytes_of, call, ring
 
 from ringtools.build import PROGRAMS, sum_of
-from ringtools.installing import FILES, OURS, InstallProblem, install, pieces, uninstall
+from ringtools.installing import FILES, OURS, InstallProblem, install, listed, pieces, uninstall
 from ringtools.kept import Store
 from ringtools.origin import find_program
 from ringtools.progress import Progress
@@ -279,15 +279,16 @@ class Installed(Place):
         (tools / "out").symlink_to(self.victim)
         shutil.rmtree(tools / "ringtools" / "__pycache__", ignore_errors=True)
         (tools / "ringtools" / "__pycache__").symlink_to(self.victim)
-        self.run_it("--uninstall", self.prefix)
+        self.assertIn("1 couldn't be", self.run_it("--uninstall", self.prefix, status=82))
         self.assertEqual((self.victim / "file").read_text(), "mine")
         self.assertEqual((self.victim / "__pycache__" / "x.pyc").read_text(), "mine")
 
     def test_all_that_is_installed_may_be_taken_away(self):
         self.run_it("--install", self.prefix)
-        names = (self.prefix / FILES).read_text().splitlines()
-        self.assertGreater(len(names), 100)
-        self.assertEqual([name for name in names if not OURS.fullmatch(name)], [])
+        found = listed(named_folder(self.prefix))
+        self.assertGreater(len(found.marks), 100)
+        self.assertEqual({path for path, mark in found.marks.items() if not OURS.fullmatch(path) or not mark}, set())
+        self.assertIn("share/man/man1", found.folders)
         subprocess.run([self.prefix / "bin" / "sdhring-view", "--version"], capture_output=True)
         self.run_it("--uninstall", self.prefix)
         self.assertFalse(self.prefix.exists() and any(self.prefix.iterdir()))
@@ -295,12 +296,79 @@ class Installed(Place):
     def test_a_link_in_the_place_of_a_file_or_a_folder(self):
         (self.prefix / "bin").mkdir(parents=True)
         (self.prefix / "bin" / "sdhring").symlink_to(self.victim / "file")
-        self.run_it("--install", self.prefix)
+        self.run_it("--install", self.prefix, "--replace")
         self.assertEqual((self.victim / "file").read_text(), "mine")
         shutil.rmtree(self.prefix / "share")
         (self.prefix / "share").symlink_to(self.victim)
         self.assertIn("is a link to", self.run_it("--install", self.prefix, status=82))
         self.assertEqual([path.name for path in self.victim.iterdir()], ["file"])
+
+    def test_files_that_no_install_has_put_there_stay(self):
+        for name in ("bin/sdhring-view", "bin/sdhnode", "share/man/man1/sdhnode.1"):
+            path = self.prefix / name
+            path.parent.mkdir(parents=True, exist_ok=True)
+            path.write_text("mine")
+        said = self.run_it("--install", self.prefix, status=1)
+        self.assertIn(f"bin/sdhnode, bin/sdhring-view, share/man/man1/sdhnode.1 below {self.prefix} are there, and no install put them there as they are; nothing is installed", said)
+        self.assertEqual({str(path.relative_to(self.prefix)) for path in self.prefix.rglob("*") if path.is_file()}, {"bin/sdhring-view", "bin/sdhnode", "share/man/man1/sdhnode.1"})
+        self.run_it("--install", self.prefix, "--replace")
+        self.assertNotEqual((self.prefix / "bin" / "sdhring-view").read_bytes(), b"mine")
+
+    def test_what_was_changed_since_stays(self):
+        (self.prefix / "bin").mkdir(parents=True)
+        self.run_it("--install", self.prefix)
+        changed = self.prefix / "share" / "man" / "man1" / "sdhnode.1"
+        changed.write_text("mine")
+        self.assertIn("share/man/man1/sdhnode.1 below", self.run_it("--install", self.prefix, status=1))
+        said = self.run_it("--uninstall", self.prefix)
+        self.assertIn("changed since they were installed, and left alone: share/man/man1/sdhnode.1\n", said)
+        self.assertEqual([path for path in self.prefix.rglob("*") if path.is_file()], [changed])
+        self.assertTrue((self.prefix / "bin").is_dir())  # which was there before
+        self.assertFalse((self.prefix / "lib").exists())
+
+    def test_an_install_that_was_broken_off_is_done_again(self):
+        self.run_it("--install", self.prefix)
+        (self.prefix / FILES).unlink()
+        (self.prefix / "bin" / "sdhring").unlink()
+        self.run_it("--install", self.prefix)
+        self.run_it("--uninstall", self.prefix)
+        self.assertEqual([path for path in self.prefix.rglob("*") if path.is_file()], [])
+
+    def test_what_could_not_be_taken_away_is_told(self):
+        """As another user's copy of an install; root can take away all, but for what is immutable."""
+        self.run_it("--install", self.prefix)
+        count = len(listed(named_folder(self.prefix)).marks)
+        if not IS_ROOT:
+            for path in [self.prefix, *self.prefix.rglob("*")]:
+                if path.is_dir():
+                    path.chmod(0o555)
+            self.addCleanup(lambda: [path.chmod(0o755) for path in [self.prefix, *self.prefix.rglob("*")] if path.is_dir()])
+            said = self.run_it("--uninstall", self.prefix, status=82)
+            self.assertIn(f"0 files are taken away from {self.prefix}; {count} couldn't be, and are still there", said)
+            self.assertIn("Permission denied", said)
+        else:
+            (self.prefix / "bin").rename(self.prefix / "real")
+            (self.prefix / "bin").symlink_to("real")
+            said = self.run_it("--uninstall", self.prefix, status=82)
+            self.assertRegex(said, rf"{count - 21} files are taken away from .*; 21 couldn't be, and are still there")
+            self.assertIn("bin is a link to real", said)
+        self.assertTrue((self.prefix / FILES).exists())
+
+    def test_a_prefix_is_made_with_the_rights_of_a_release(self):
+        """And folders that others can write to are told."""
+        for mask, open in ((0, False), (0o002, False), (0, True)):
+            shutil.rmtree(self.top / "p", ignore_errors=True)
+            before = os.umask(mask)
+            try:
+                if open:
+                    (self.top / "p" / "q").mkdir(parents=True)
+                said = self.run_it("--install", self.top / "p" / "q" / "r")
+            finally:
+                os.umask(before)
+            modes = {stat.S_IMODE((self.top / path).stat().st_mode) for path in ("p/q/r", "p/q/r/bin", "p/q/r/lib/sdhring/tools/ringtools")}
+            self.assertEqual(modes, {0o755})
+            told = f"warning: others than you can write to {self.top}/p, {self.top}/p/q, and so change what runs from"
+            self.assertEqual(told in said, open, said)
 
     def test_an_empty_prefix_is_none(self):
         for word in ("--install", "--uninstall"):
@@ -330,7 +398,7 @@ class Installed(Place):
         for name in PROGRAMS:
             (folder / f".{name}.new").symlink_to(secret)
             (folder / name).symlink_to(secret)
-        self.run_it("--install", self.prefix)
+        self.assertIn("warning: others than you can write to", self.run_it("--install", self.prefix, "--replace"))
         self.assertEqual((secret.read_text(), secret.stat().st_mode & 0o777), ("root's", 0o600))
 
 

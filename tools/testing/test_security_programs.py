@@ -1,5 +1,6 @@
 """Which program runs: nothing of the current folder, of the environment's search paths, or of another user of the machine."""
 
+import marshal
 import os
 import pwd
 import shutil
@@ -9,7 +10,7 @@ import unittest
 from pathlib import Path
 
 from checkouts import PROGRAM, TOP, at_terminal, executable, make_checkout, release
-from common import TOOLS, ring
+from common import TOOLS, copied_tools, ring
 
 from ringtools.build import sum_of
 from ringtools.installing import TOOLS as NAMES
@@ -69,9 +70,41 @@ class Python(Started):
                 continue
             for line in path.read_text(encoding="utf-8").splitlines():
                 if line.startswith("#!") and "python3" in line:
-                    self.assertEqual(line, "#!/usr/bin/env -S python3 -I", path)
+                    self.assertEqual(line, "#!/usr/bin/env -S python3 -I" + "B" * (path.parent == TOOLS), path)
                 if "python3 -c" in line or "python3 -m" in line:
                     self.fail(f"{path}: {line}")
+
+    def unpacked(self) -> Path:
+        """Tools at a place of their own, as an unpacked release has them."""
+        tools = copied_tools(self.top)
+        shutil.copy(ring("span-cut")[0], self.top / "plan.toml")
+        return tools
+
+    def test_compiled_modules_are_kept_where_others_cannot_write(self) -> None:
+        """Whatever the user's mask is, which the files of the user's own keep."""
+        tools = self.unpacked()
+        for mask in (0, 0o002, 0o077):
+            for cache in tools.rglob("__pycache__"):
+                shutil.rmtree(cache)
+            ended = subprocess.run([tools / "sdhring-plan", "new", "1>3", "--to", f"{mask}.toml"], cwd=self.top, env=self.environment(), umask=mask, capture_output=True)
+            self.assertEqual(ended.returncode, 0, ended.stderr)
+            self.assertEqual((self.top / f"{mask}.toml").stat().st_mode & 0o777, 0o666 & ~mask)
+            self.assertEqual({path.stat().st_mode & 0o022 for path in tools.rglob("__pycache__")}, {0})
+            self.assertGreater(len(list((tools / "ringtools" / "__pycache__").iterdir())), 5)
+
+    def test_compiled_modules_that_others_can_write_are_not_run(self) -> None:
+        tools = self.unpacked()
+        start = lambda: subprocess.run([tools / "sdhring-explain", "plan.toml"], cwd=self.top, env=self.environment(), capture_output=True)
+        self.assertEqual(start().returncode, 0)
+        cache = tools / "ringtools" / "__pycache__"
+        compiled = next(path for path in cache.iterdir() if path.name.startswith("plan."))
+        hostile = compile(HOSTILE.format(top=str(self.top)), "x", "exec")
+        compiled.write_bytes(compiled.read_bytes()[:16] + marshal.dumps(hostile))
+        cache.chmod(0o777)
+        self.assertEqual((start().returncode, self.ran()), (0, []))
+        cache.chmod(0o755)
+        start()
+        self.assertEqual(self.ran(), ["ran-ringtools.plan"])  # whoever can write to the folder of the tools can change what they are
 
     def test_a_file_that_begins_with_a_minus_is_explained(self):
         folder = self.hostile_folder()
