@@ -13,7 +13,7 @@ from pathlib import Path
 
 from ..cells import text_of_records
 from ..escaping import Markup, html, lines
-from ..markup import count_of, folded, moment_words, table, terms, whole
+from ..markup import count_of, folded, joined, moment_words, note, table, terms, whole
 from ..origin import Program, now
 from ..shown import shown
 from .judging import BROKEN, NOT_REACHED, OBEYED, Judge, Verdict
@@ -28,6 +28,7 @@ TITLES = {
     "defect": "Defects and their ends",
     "origin": "Origins of what ports deliver and of what leaves",
 }
+COUNTS = note("Rounds: in how many it is obeyed, of those of the suite that ask for it.")
 LONGEST = 120  # letters of a value that are shown
 
 
@@ -106,23 +107,41 @@ def as_junit(told: Told) -> str:
     return ElementTree.tostring(suite, encoding="unicode", xml_declaration=True) + "\n"
 
 
-def row(verdict: Verdict) -> list[object]:
-    """Returns the cells of a verdict on the page."""
+def said(words: str) -> Markup:
+    """Returns what a rule says, with the names in it set off."""
+    parts = words.split("`")
+    return joined(html("<code>{}</code>", part) if at % 2 else part for at, part in enumerate(parts))
+
+
+def broken_row(verdict: Verdict) -> list[object]:
+    """Returns the cells of a verdict in the table of what is broken."""
     failure = verdict.failure
-    words = html("<strong>{}</strong>", verdict.verdict) if verdict.verdict == BROKEN else verdict.verdict
-    where = value = ""
-    if failure is not None:
-        where = f"{failure.stream}, round {failure.round}: {failure.difference.field}"
-        value = html("<code>{}</code>, came <code>{}</code>", limited(failure.difference.due), limited(failure.difference.came))
-    return [verdict.name, verdict.words, words, f"{verdict.rounds:,}", f"{verdict.reached:,}", where, value]
+    found, where = failure.difference, f"Stream {failure.stream}, round {failure.round}: {failure.difference.field}."
+    values = html("Due <code>{}</code>, came <code>{}</code>.", limited(found.due), limited(found.came))
+    return [verdict.name, said(verdict.words), lines(html("{}", where), values)]
+
+
+def broken(told: Told) -> Markup:
+    """Returns the table of what is broken: rules, the likeliest first, and how the device runs."""
+    order = {rule: at for at, rule in enumerate(rule for rules, _ in told.judge.blamed() for rule in rules)}
+    verdicts = [verdict for verdict in told.verdicts if verdict.failure is not None and verdict.kind in ("device", "rule")]
+    if not verdicts:
+        return html("")
+    verdicts.sort(key=lambda verdict: order.get(verdict.name, -1))
+    return table("What is broken", ["name", "what it says", "where it differs first"], map(broken_row, verdicts))
 
 
 def section(told: Told, kind: str) -> Markup:
     """Returns the table of a kind of verdicts."""
     verdicts = [verdict for verdict in told.verdicts if verdict.kind == kind]
     changed = {number for number, verdict in enumerate(verdicts) if verdict.verdict == BROKEN}
-    titles = ["name", "what it says", "verdict", "rounds obeyed", "rounds of the suite", "where it differs first", "due"]
-    return table(TITLES[kind], titles, [row(verdict) for verdict in verdicts], changed)
+    has_words = kind in ("device", "rule")
+    titles = ["name", *(["what it says"] if has_words else []), "verdict", "rounds" if kind != "device" else "streams"]
+    rows = []
+    for one in verdicts:
+        verdict = html("<strong>{}</strong>", one.verdict) if one.verdict == BROKEN else one.verdict
+        rows.append([one.name, *([said(one.words)] if has_words else []), verdict, f"{one.rounds:,} of {one.reached:,}"])
+    return table(TITLES[kind], titles, rows, changed)
 
 
 def repeating(told: Told) -> Markup:
@@ -152,6 +171,6 @@ def as_page(told: Told) -> str:
     }  # fmt: skip
     uncovered = judge.uncovered()
     covered = html("<p>The suite reached all cases of all rules.</p>") if not uncovered else html("<p>Cases that these streams don't reach: {}.</p>", ", ".join(uncovered))
-    body = [html("<h1>{}</h1>", title), html('<p class="alarm"><strong>{}</strong></p>', told.summary()), repeating(told), section(told, "device"), section(told, "rule"), covered]
+    body = [html("<h1>{}</h1>", title), html('<p class="alarm"><strong>{}</strong></p>', told.summary()), broken(told), repeating(told), COUNTS, section(told, "device"), section(told, "rule"), covered]
     body += [folded(TITLES[kind], section(told, kind)) for kind in ("case", "word", "mark", "defect", "origin")]
     return whole(title, lines(*body, html('<dl class="origin">{}</dl>', terms(origin))))
