@@ -316,6 +316,10 @@ class Outlet:
             yield rule, case, saw, fits
         yield from self.misfired(rule, fits)
         elsewhere = [name for name in fits if " in " in name]
+        if self.of.origin is not None and len(self.of.origin) == 3:
+            silent, right = self.made_of(None), self.right()
+            is_other = self.of.seen[:2] != silent[:2] and self.of.seen[-2:] != right[-2:] and len(elsewhere) == len(fits)
+            yield "5.place", "bytes", self.slot(), ["others"] if is_other else []
         kind = "working" if self.of.key[0] == "port" or self.of.key[2] == "w" else "protection"
         yield "6.place", kind, self.slot(), elsewhere
         if self.of.key[0] == "port":
@@ -332,7 +336,7 @@ class Outlet:
             applied |= {"6.switch": ["this side's p", "the other side's p"], "6.through": working} | ({} if self.of.key[0] == "port" else {"6.port": ports, "6.free": ["AIS"]})
         for other, names in applied.items():
             if other != rule:
-                yield other, "not", self.node.state[0], [name for name in names if name in fits]
+                yield other, "not", (self.node.state[0], rule, self.of.key[0]), [name for name in names if name in fits]
 
     def name_of(self, origin: object) -> str:
         """The name of an origin, by how it lies to this one."""
@@ -352,8 +356,6 @@ class Outlet:
         yield "8.justification", "none" if right[2] in (bytes(3), b"\xff" * 3) else "down", "", ["others"] if same[0] and same[1] and not same[2] else []
         is_word = not same[0] and (same[1] or seen[0] == ONES)
         yield *self.generated(), ["others"] if is_word else []
-        if self.of.origin is not None and len(self.of.origin) == 3:
-            yield "5.place", "payload", slot, ["others"] if same[0] and not same[1] else []
 
     def place(self) -> tuple[str, str, object]:
         """The rule of its origin, the case, and what the rule sees."""

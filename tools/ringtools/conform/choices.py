@@ -113,9 +113,9 @@ class Evidence:
         two, and each answer that then still doesn't fit as one."""
         return sum(map(cost_of_case, self.table.values()))
 
-    def asked(self) -> int:
-        """Returns how often the cases come up that aren't right in all answers."""
-        return sum(seen.asked for details in self.table.values() if any(one.asked > one.fits[RIGHT] for one in details.values()) for seen in details.values())
+    def broken(self) -> list[str]:
+        """Returns the cases that aren't right in all answers."""
+        return [case for case, details in self.table.items() if any(seen.asked > seen.fits[RIGHT] for seen in details.values())]
 
 
 def cost_of_case(details: Details) -> int:

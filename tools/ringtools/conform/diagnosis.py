@@ -2,7 +2,7 @@
 
 from __future__ import annotations
 
-from collections import defaultdict
+from collections import Counter, defaultdict
 from collections.abc import Iterable
 from typing import NamedTuple
 
@@ -38,11 +38,19 @@ class Diagnosis:
         """Returns of each rule how much has to be said beside it: wrong answers that it doesn't explain, and what it says wrong."""
         return {rule: self.wrong - self.tables[rule].explains + self.tables[rule].cost() for rule in RULES if self.tables[rule].explains > 0}
 
-    def ranked(self) -> list[tuple[str, int]]:
-        """Returns the rules that explain something, those of which least has to be said first; of equals the one that is asked least, and then the one that a
-        node comes to last."""
-        order = list(RULES)
-        return sorted(self.costs().items(), key=lambda one: (one[1], self.tables[one[0]].asked(), -order.index(one[0])))
+    def ranked(self, reached: Counter | None = None) -> list[tuple[str, int]]:
+        """Returns the rules that explain something, those of which least has to be said first; of equals the one whose broken cases come up least in the
+        suite, and then the one that a node comes to last."""
+        order, counts = list(RULES), reached or Counter()
+
+        def rank(one: tuple[str, int]) -> tuple[int, int, int]:
+            rule, cost = one
+            return cost, sum(counts.get(f"{rule}/{case}", NO_CASE) for case in self.tables[rule].broken()), -order.index(rule)
+
+        return sorted(self.costs().items(), key=rank)
+
+
+NO_CASE = 1 << 30  # where a rule does something in which it has no part: it comes up in all rounds
 
 
 def together(several: Iterable[Diagnosis]) -> Diagnosis:

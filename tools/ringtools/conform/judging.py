@@ -91,7 +91,7 @@ class Judge:
     def likeliest(self, failures: list[Failure]) -> list[str]:
         """Returns the rules beside which least has to be said to explain these failures; where none was diagnosed, those that decide most of them."""
         streams = {failure.stream for failure in failures}
-        ranked = together(diagnosis for stream, diagnosis in self.diagnoses.items() if stream in streams).ranked()
+        ranked = together(diagnosis for stream, diagnosis in self.diagnoses.items() if stream in streams).ranked(self.reached)
         if not ranked:
             counts = Counter(rule for failure in failures for rule in rules_of(failure.difference.cases))
             ranked = [(rule, -counts[rule]) for rule in sorted(counts, key=lambda rule: (-counts[rule], list(RULES).index(rule)))]
