@@ -1,15 +1,12 @@
 -- Faults of the parts of a call.
-use Rattle.std.proofs.Common.{◌≡◌, ◌≢◌, ◌≤◌, ℕ, List, Bool, true, refl, ap, sym, ◌∙◌, inl, inr, arith}
+use Rattle.std.proofs.Common.{◌≡◌, ◌≢◌, ◌≤◌, ℕ, List, Bool, true, refl, ap, ◌∙◌, arith}
 use Rattle.std.specs.Prelude.{Option, Result, Ok, Err, IsErr}
 use native.Mathlib.Nat.{le_refl}
 use Rattle.sdh_basics.specs.Causes.{IsCounted, HasCause, one_more}
 use Rattle.sdh_status.specs.declared.Status.TheVariants as status
-use Rattle.sdh_shell.specs.Writing.{WroteEnding}
-use Rattle.sdh_node_cli.specs.declared.ending.Ending.{Ending}
 use Rattle.sdh_node_cli.specs.declared.ending.Ending.TheVariants as ending
 use Rattle.sdh_node_cli.specs.declared.stop.Stop.{Stop}
 use Rattle.sdh_node_cli.specs.declared.stop.Stop.TheVariants as stop
-use Rattle.sdh_node_cli.specs.Endings.{bench_endings}
 use Rattle.sdh_node_cli.specs.Faults.{CountsFault}
 use Rattle.sdh_node_cli.specs.Bench.{Bench}
 use Rattle.sdh_node_cli.specs.Turns.{TakesPart, Halts}
@@ -120,26 +117,6 @@ write_not_read how is e = cc
 pub err_same : {T : Type 0} (one other : Stop) → ◌≡◌ {A = Result T Stop} (Err one) (Err other) → one ≡ other
 err_same one other e = cc
 
--- ---- of the last line
-
-pub write_or_usage : ending.Shared status.WriteFault ≢ ending.Shared status.Usage
-write_or_usage e = cc
-
-pub write_or_memory : ending.Shared status.WriteFault ≢ ending.Shared status.Memory
-write_or_memory e = cc
-
--- an ending that is no write fault is the one that was to be returned
-pub ended_so : (how end : Ending) (line : List ℕ) (old new : Option (List ℕ)) → WroteEnding bench_endings how line end old new
-    → end ≢ ending.Shared status.WriteFault → end ≡ how
-ended_so how end line old new (inl x) not = x.0
-ended_so how end line old new (inr x) not = absurd (not x.0)
-
--- so the ending is of a kind only where the one that was to be returned is, or where a write failed
-pub ended_not : (how end other : Ending) (line : List ℕ) (old new : Option (List ℕ)) → WroteEnding bench_endings how line end old new
-    → how ≢ other → ending.Shared status.WriteFault ≢ other → end ≢ other
-ended_not how end other line old new (inl x) other_is never e = other_is (sym x.0 ∙ e)
-ended_not how end other line old new (inr x) other_is never e = never (sym x.0 ∙ e)
-
 -- ---- of records
 
 pub stop_fault : (why : Stop) (number : ℕ) → ending_of why number ≡ ending.Shared status.ReadFault → why ≡ stop.ReadFault
@@ -150,9 +127,3 @@ stop_fault stop.WriteFault number e = cc
 
 pub fault_stop : (why : Stop) (number : ℕ) → why ≡ stop.ReadFault → ending_of why number ≡ ending.Shared status.ReadFault
 fault_stop why number e = ap (λ w. ending_of w number) e
-
-pub stop_own : (why : Stop) (number : ℕ) → (ending_of why number ≢ ending.Shared status.Usage) × (ending_of why number ≢ ending.Shared status.Memory)
-stop_own stop.Done number = (λ e. cc, λ e. cc)
-stop_own (stop.Bad f) number = (λ e. cc, λ e. cc)
-stop_own stop.ReadFault number = (λ e. cc, λ e. cc)
-stop_own stop.WriteFault number = (λ e. cc, λ e. cc)

@@ -1,5 +1,5 @@
 -- The plan of a stream, or why there is none.
-use Rattle.std.proofs.Common.{◌≡◌, ℕ, ◌+◌, ◌<◌, ◌≤◌, List, ◌++◌, length, ap, sym, subst, inr, arith}
+use Rattle.std.proofs.Common.{◌≡◌, ℕ, ◌≤◌, List, ◌++◌, length, ap, sym, subst, inr, arith}
 use Rattle.std.specs.Prelude.{Option}
 use Rattle.std.specs.Io.KnownBytes.{Consumes}
 use Rattle.std.proofs.lemmas.List.{length-append}
@@ -11,7 +11,7 @@ use Rattle.sdh_node_cli.specs.declared.head.NoHead.TheVariants as none
 use Rattle.sdh_node_cli.specs.declared.head.HeadEnd.{HeadEnd}
 use Rattle.sdh_node_cli.specs.declared.head.HeadEnd.TheVariants as end
 use Rattle.sdh_node_cli.specs.Streams.{end_of_plan, EndsPlan, IsPlanDocument}
-use Rattle.sdh_node_cli.specs.Outcome.{HasHead, HasNoHead, HasShortHead, TakesHead, IsNoPlan, TellsNone, TakesNoRecord}
+use Rattle.sdh_node_cli.specs.Outcome.{HasHead, TakesHead, IsNoPlan, TellsNone}
 
 pub tells_none : (left now : Option (List ℕ)) (why : NoHead) (document : List ℕ) → IsPlanDocument document → HasPlanLength document
     → Consumes left now (document ++ end_of_plan) → IsNoPlan document why → TellsNone left now why
@@ -56,17 +56,8 @@ has_none left now bytes cut why (document, is, first, read) same short because =
     tells_none left now why document first (subst HasPlanLength (same document is) short) (subst (Consumes left now) is read)
     (subst (λ d. IsNoPlan d why) (same document is) because)
 
--- fewer bytes than may be read have no line that ends a plan
-pub short_head : (left now : Option (List ℕ)) (bytes : List ℕ) (room most : ℕ) → HasNoHead left now bytes → room + length bytes ≡ most
-    → most ≡ 1048588 → 0 < room → HasShortHead left now
-short_head left now bytes room most has kept is some = record { bytes = bytes; no_head = has; short = omega (arith, kept, is, some) }
-
 -- the bytes of a document are no more than a plan may have
 pub few_bytes : (bytes cut : List ℕ) → EndsPlan bytes → ((document : List ℕ) → bytes ≡ document ++ end_of_plan → cut ≡ document)
     → length bytes ≤ 1048588 → length cut ≤ 1048576
 few_bytes bytes cut (document, is, lines) same few =
     omega (arith, few, ap length (same document is), ap length is, length-append document end_of_plan)
-
--- a plan was read, and nothing after it
-pub takes_document : (left now : Option (List ℕ)) (plan : Planned) → HasHead left now plan → TakesNoRecord left now
-takes_document left now plan head = inr (record { document = head.document; first = head.first; short = head.plan_is.0; read = head.read })

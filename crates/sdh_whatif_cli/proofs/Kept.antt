@@ -1,7 +1,7 @@
 -- What a call keeps of its source and its sink, by how it ended.
-use Rattle.std.proofs.Common.{◌≡◌, ◌≢◌, ◌⊎◌, ℕ, ◌+◌, ◌≤◌, Bool, true, List, inl, inr, refl, ap, sym, ◌∙◌, subst, le_refl}
+use Rattle.std.proofs.Common.{◌≡◌, ◌≢◌, ◌⊎◌, ℕ, ◌+◌, ◌≤◌, true, List, inl, inr, refl, ap, sym, ◌∙◌, subst, le_refl}
 use Rattle.std.specs.Prelude.{Option, None, Result, Ok, Err, IsErr, OnErr}
-use Rattle.sdh_basics.specs.Causes.{Rose, IsCounted}
+use Rattle.sdh_basics.specs.Causes.{Rose}
 use Rattle.sdh_outside.specs.Reading.{TakesFewer}
 use Rattle.sdh_status.specs.declared.Status.{Status}
 use Rattle.sdh_status.specs.declared.Status.TheVariants as status

@@ -1,4 +1,4 @@
-use Rattle.std.proofs.Common.{ℕ, List, OnErr, refl, inl, inr, subst}
+use Rattle.std.proofs.Common.{ℕ, List, OnErr, refl, inr, subst}
 use Rattle.sdh_outside.specs.Writing.{AppendsFewer}
 use Rattle.sdh_status.specs.declared.Status.TheVariants as status
 use Rattle.sdh_shell.specs.Calls.{words_of}
@@ -29,3 +29,11 @@ returns-in_default-clause-kept g c =
     (seen_around g.R.Source.faults g.R.Source.exact g.R.Source.left c.args.source.now c.answer.new.source)
     (seen_around g.W.Sink.faults g.W.Sink.exact g.W.Sink.written c.args.sink.now c.answer.new.sink) none.memory.0 none.memory.1 none.few
     none.unread none.later
+
+pub returns-in-Err-clause-kept : goal.returns-in-Err-clause-kept
+returns-in-Err-clause-kept g c =
+    let e = c.answer.ensures in
+    kept_ended (asked (words_of c.args.words.now)) (own_texts (words_of c.args.words.now))
+    (seen_around g.R.Source.faults g.R.Source.exact g.R.Source.left c.args.source.now c.answer.new.source)
+    (seen_around g.W.Sink.faults g.W.Sink.exact g.W.Sink.written c.args.sink.now c.answer.new.sink) c.in-Ok.told.status c.in-Ok.told.wrote
+    c.in-Ok.ensures.ended status.WriteFault (inr (refl, _, c.in-Err.is)) e.unread e.later
