@@ -1,4 +1,4 @@
--- Which cases have a line: each set of so many failures that are taken, once.
+-- Which cases have a line: each set of failures that are taken, up to the largest number that is asked for, once.
 use Rattle.std.specs.Prelude.{ℕ, ◌≡◌, ◌<◌, ◌≤◌, ◌==◌, true, if◌then◌else◌, List, [], ◌∷◌, length, map, All}
 use Rattle.std.specs.List.{flat_map}
 use Rattle.sdh_plan.specs.Planned.{Planned}

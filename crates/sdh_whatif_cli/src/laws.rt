@@ -11,7 +11,8 @@ pub fn lines_are_true()
     sdh_verdicts::laws::cases_are_shown();
 }
 
-/// Each set of so many failures that are taken has exactly one line of the table, and each line is that of such a set.
+/// Each set of failures that are taken, up to the largest number that is asked for, has exactly one line of the table,
+/// and each line is that of such a set.
 pub fn cases_have_one_line()
     ensures { CasesHaveOneLine }
 {}

@@ -7,11 +7,12 @@ ghost use Rattle.sdh_shell.specs.Writing.{Writes};
 ghost use Rattle.sdh_outside.specs.Writing.{Wrote};
 ghost use Rattle.sdh_shell.specs.Calls.{words_of};
 ghost use Rattle.sdh_whatif_cli.specs.Words.{asked, own_texts, IsPart};
+ghost use Rattle.sdh_whatif_cli.specs.Listed.{CasesHaveOneLine};
 ghost use Rattle.sdh_whatif_cli.specs.Laws.{LinesAreTrue};
 ghost use Rattle.sdh_whatif_cli.specs.Outcome.{refusal, of_plan, IsOutcome, told, SeenOfCall, CasesEnded, KeepsCases};
 
 use crate::ask::{Ask, asked};
-use crate::laws::lines_are_true;
+use crate::laws::{cases_have_one_line, lines_are_true};
 use crate::line::Line;
 use crate::own::{OwnError, own_failures};
 use crate::scene::Scene;
@@ -206,6 +207,10 @@ pub fn whatif<R: Source, W: Sink>(
     // Each line says what the last report shows if the plan is run with the line's steps after its script.
     ensures lines { LinesAreTrue }
 
+    // Each set of failures that are taken, up to the largest number that is asked for, has exactly one line, and no other
+    // line is there.
+    ensures cases { CasesHaveOneLine }
+
     // What the call keeps, over every source and sink (`Keeps` in `sdh_shell/specs/Kept`): each fault has its cause, what
     // isn't asked for stays as it was, and where the words ask for something, the plan's ring has the user's own failures
     // and no call fails, everything is written. What was written is said of the status of which it is said how many reads
@@ -214,6 +219,7 @@ pub fn whatif<R: Source, W: Sink>(
         (seen_around R.faults R.exact R.left source.old source.new) (seen_around W.faults W.exact W.written sink.old sink.new) result }
 {
     lines_are_true();
+    cases_have_one_line();
     let Ok(told) = answer(alloc, words, source, sink) else {
         return Status::Memory;
     };
