@@ -122,8 +122,8 @@ pub fn unsettled_followed_rings_are_restored()
     sdh_signal::rings_settle();
 }
 
-/// From a new ring on, without slips, holds and changes that come within four rounds of one another, each stretch of at
-/// least 6n + 8 rounds leaves the ring restored.
+/// From a new ring on, without slips and holds, and where changes of fibres come at one moment or four rounds apart, each
+/// stretch of at least 6n + 8 rounds leaves the ring restored. Orders may come in any round.
 pub fn plain_stretches_are_restored_soon()
     ensures { PlainStretchesAreRestoredSoon }
 {

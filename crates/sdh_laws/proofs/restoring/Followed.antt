@@ -52,7 +52,7 @@ use Rattle.sdh_laws.proofs.converging.Ports.{IsSent, source_at, source_small, so
 use Rattle.sdh_laws.proofs.converging.Runs.{length_run, rate_run, condition_run}
 use Rattle.sdh_laws.proofs.converging.Spans.{reading_in, word_in, interpreter_goes, Takes}
 use Rattle.sdh_laws.specs.Restoring.Followed.{pointer_word_on, IsWordOf, IsSoundReading, Follows, IsFollowed, RoundsStayFollowed}
-use Rattle.sdh_laws.proofs.restoring.Following.{IsPlainAction, GoesOn, over_ones, made, plain_comes, sound_cut}
+use Rattle.sdh_laws.proofs.restoring.Following.{IsPlainAction, GoesOn, over_ones, CountsOnes, ones_counted, made, plain_comes, sound_cut}
 use Rattle.sdh_laws.proofs.restoring.Following.{follows_next, word_next, was_sent, Near, near_first, near_next}
 use Rattle.sdh_rounds.specs.Rounds as any_round
 use Rattle.sdh_rounds.specs.Runs as any_run
@@ -174,6 +174,27 @@ AreNear j w = HoldsOfAll w (λ cut r s word. cut ≡ false → Near j r s word)
 
 pub followed_is : (w : World) → IsFollowed w → IsFollowing w
 followed_is w f p d i h few = let is = f p d i h few in record { sound = is.sound; follows = λ clear. is }
+
+-- those behind fibres that are cut have read at least j words of ones
+abbrev pub AreCounting : ℕ → World → Type 0
+AreCounting j w = HoldsOfAll w (λ cut r s word. cut ≡ true → CountsOnes j r)
+
+pub counting_none : (w : World) → AreCounting 0 w
+counting_none w p d i h few cut = inr (omega arith, omega arith)
+
+-- where those behind fibres that are cut have read three, all follow, whether their fibres are cut or not
+pub followed_from : (j : ℕ) (w : World) → 3 ≤ j → IsFollowing w → AreCounting j w → IsFollowed w
+followed_from j w many is counting p d i h few =
+    elim (cases_Bool (is_cut (condition_to w p d))) [
+      | inr clear ↦ (is p d i h few).follows clear
+      | inl cut ↦ record {
+        sound = (is p d i h few).sound;
+        value = λ v e n norm. elim (counting p d i h few cut) [
+          | inl ais ↦ absurd (let x : mode.Ais ≡ mode.Norm = sym ais ∙ norm in cc)
+          | inr both ↦ absurd (let two = both.1 in omega arith)
+        ];
+      }
+    ]
 
 -- ones are no word of a value
 not_ones : (s : Option ℕ) → IsWordOf s 65535 → (u : ℕ) → s ≡ Some u → ⊥
@@ -349,6 +370,14 @@ module _ (w : World) (whole : IsWhole w) (form : HasCircuits (layout_of w)) (uns
         sound = next_sound p d i low few;
         follows = λ clear. next_follows p d i low few (sym (condition_kept p d) ∙ clear);
       }
+
+  pub round_counting : (j : ℕ) → 0 < w.ring.rounds → AreCounting j w → AreCounting (suc j) (round w)
+  unfolding any_round.round any_round.round_with
+  round_counting j ran counting p d i h few cut =
+      let low : p < length w.ring.nodes = omega (arith, length-after w) in
+      let cut_now = sym (condition_kept p d) ∙ cut in
+      subst (CountsOnes (suc j)) (sym (read_as p d i low few ran true cut_now))
+      (ones_counted j (reading_at w p d i) (f p d i low few).sound.kept (counting p d i low few cut_now))
 
   pub round_near : (j : ℕ) → AreNear j w → AreNear (suc j) (round w)
   unfolding any_round.round any_round.round_with

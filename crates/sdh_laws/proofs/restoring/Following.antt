@@ -81,17 +81,42 @@ over_ones r other small = by r.mode refl
               other tt
         ]
 
--- ---- words that a generator sends
-
--- the interpreter is in Norm at this value
-abbrev pub IsAtValue : ℕ → Reading → Type 0
-IsAtValue v r = (r.mode ≡ mode.Norm) × (r.value ≡ v)
-
 two_at_most : (k : ℕ) → nat_le 3 k ≡ false → k ≤ 2
 two_at_most k f = elim (cases_lt k 3) [
   | inl less ↦ omega arith
   | inr more ↦ absurd (let e = le-leb _ _ more in let g : true ≡ false = sym e ∙ f in cc)
 ]
+
+-- what an interpreter that reads ones has counted: it is in Ais, or in Norm after at least j of them
+abbrev pub CountsOnes : ℕ → Reading → Type 0
+CountsOnes j r = (r.mode ≡ mode.Ais) ⊎ ((j ≤ r.ais) × (j ≤ 2))
+
+pub ones_counted : (j : ℕ) (r : Reading) → r.mode ≢ mode.Lop → CountsOnes j r → CountsOnes (suc j) (after_word r 65535)
+ones_counted j r other counts = by r.mode refl
+  where
+    by : (m : Mode) → r.mode ≡ m → CountsOnes (suc j) (after_word r 65535)
+    by mode.Lop is = absurd (other is)
+    by mode.Ais is = inl (ap (λ (x : Reading). x.mode) (by_event r 65535 mode.Ais event.Ais is (of_ones r) ∙ ais_ais r))
+    by mode.Norm is =
+        let next = by_event r 65535 mode.Norm event.Ais is (of_ones r) ∙ norm_ais r in
+        elim (cases_Bool (nat_le 3 (r.ais + 1))) [
+          | inl t ↦ (let became : after_word r 65535 ≡ nothing_counted mode.Ais r.value 0 = next ∙ (rw t refl) in
+              inl (ap (λ (x : Reading). x.mode) became))
+          | inr f ↦ (
+              let stayed : after_word r 65535 ≡ with_ais r (later r.since) = next ∙ (rw f refl) in
+              let more = ap (λ (x : Reading). x.ais) stayed in
+              let few = two_at_most (r.ais + 1) f in
+              elim counts [
+                | inl ais ↦ absurd (let e : mode.Norm ≡ mode.Ais = sym is ∙ ais in cc)
+                | inr both ↦ (let many = both.0 in inr (omega arith, omega arith))
+              ])
+        ]
+
+-- ---- words that a generator sends
+
+-- the interpreter is in Norm at this value
+abbrev pub IsAtValue : ℕ → Reading → Type 0
+IsAtValue v r = (r.mode ≡ mode.Norm) × (r.value ≡ v)
 
 -- an enabled word is taken at once
 pub over_enabled : (r : Reading) (v : ℕ) → v ≤ 782 → r.mode ≢ mode.Lop

@@ -27,7 +27,7 @@ use Rattle.sdh_laws.specs.Carrying.Laws.{DeliversItsDue, IsRestored}
 use Rattle.sdh_laws.proofs.carrying.Ways.{layout_run}
 use Rattle.sdh_laws.specs.Converging.Steady.{IsUnslipped}
 use Rattle.sdh_laws.proofs.converging.Runs.{run_more}
-use Rattle.sdh_laws.specs.Restoring.Followed.{IsFollowed, ArePortsOwedAtOnce, FollowedPortsAreOwedSoon, FollowedRingsAreRestoredSoon}
+use Rattle.sdh_laws.specs.Restoring.Followed.{ArePortsOwedAtOnce, FollowedPortsAreOwedSoon, FollowedRingsAreRestoredSoon}
 use Rattle.sdh_laws.specs.Restoring.Followed.{HeldFollowedRingsAreRestoredSoon, UnsettledFollowedRingsAreRestored}
 use Rattle.sdh_laws.proofs.restoring.AtOnce.{FollowAtOnce, joined_at_once}
 use Rattle.sdh_laws.proofs.restoring.Followed.{IsFollowing, AreNear, followed_is, run_following, near_later}
@@ -37,7 +37,7 @@ use Rattle.sdh_laws.proofs.restoring.Soon.{ids_u, parted_owed, clocks}
 -- where no controller misses a turn from round f on, and no slip waits
 module _ (law : RingsSettle) (w : World) (whole : IsWhole w) (form : HasCircuits (layout_of w)) (f base : ℕ)
     (free : (k : ℕ) → f ≤ k → AtEach (λ p n. is_held n ≡ false) (run k w).ring.nodes) (late : 4 * length w.ring.ids + f + 9 ≤ base)
-    (unslipped : IsUnslipped w) (followed : IsFollowed w) where
+    (unslipped : IsUnslipped w) (following : IsFollowing w) where
   open terms w use {n}
 
   slips : IsUnslipped (run base w)
@@ -51,10 +51,10 @@ module _ (law : RingsSettle) (w : World) (whole : IsWhole w) (form : HasCircuits
 
   at_once : FollowAtOnce start
   at_once = record {
-    follow = λ k. subst IsFollowing (sym (run_more w base k)) (run_following w whole form unslipped (followed_is w followed) (k + base));
+    follow = λ k. subst IsFollowing (sym (run_more w base k)) (run_following w whole form unslipped following (k + base));
     near =
         λ k. subst (AreNear 3) (sym (run_more w base k))
-        (near_later w whole form unslipped (followed_is w followed) (k + base) (omega (arith, late)));
+        (near_later w whole form unslipped following (k + base) (omega (arith, late)));
   }
 
   -- a port of a joined circuit
@@ -129,18 +129,24 @@ free_later w whole turns held k late p h =
 
 pub followed_ports_are_owed_soon : RingsSettle → FollowedPortsAreOwedSoon
 followed_ports_are_owed_soon law w whole form turns held unslipped followed =
-    owed_at_once law w whole form turns (4 * length w.ring.ids + turns + 9) (free_later w whole turns held) (omega arith) unslipped followed
+    owed_at_once law w whole form turns (4 * length w.ring.ids + turns + 9) (free_later w whole turns held) (omega arith) unslipped
+    (followed_is w followed)
     (5 * length w.ring.ids + turns) (omega arith)
+
+pub following_restored : RingsSettle → (w : World) → IsWhole w → HasCircuits (layout_of w) → NoControllerHeld w → IsUnslipped w → IsFollowing w
+    → (k : ℕ) → 6 * length w.ring.ids + 8 ≤ k → IsRestored (clocks_from w) (run k w) (span_requests_of (run k w))
+following_restored law w whole form free unslipped following k enough =
+    restored_at_once law w whole form 0 (4 * length w.ring.ids + 9) (λ k h. free_stays w whole free k) (omega arith) unslipped following k
+    (omega arith)
 
 pub followed_rings_are_restored_soon : RingsSettle → FollowedRingsAreRestoredSoon
 followed_rings_are_restored_soon law w whole form free unslipped followed k enough =
-    restored_at_once law w whole form 0 (4 * length w.ring.ids + 9) (λ k h. free_stays w whole free k) (omega arith) unslipped followed k
-    (omega arith)
+    following_restored law w whole form free unslipped (followed_is w followed) k enough
 
 pub held_followed_rings_are_restored_soon : RingsSettle → HeldFollowedRingsAreRestoredSoon
 held_followed_rings_are_restored_soon law w whole form turns held unslipped followed k enough =
     restored_at_once law w whole form turns (4 * length w.ring.ids + turns + 9) (free_later w whole turns held) (omega arith) unslipped
-    followed k (omega arith)
+    (followed_is w followed) k (omega arith)
 
 pub unsettled_followed_rings_are_restored : RingsSettle → UnsettledFollowedRingsAreRestored
 unsettled_followed_rings_are_restored law w left limit form unsettles whole free unslipped followed enough =

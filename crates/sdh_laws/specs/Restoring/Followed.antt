@@ -1,6 +1,6 @@
 -- Rings whose pointer interpreters follow the generators across their spans, and how soon every port of such a ring
 -- delivers what it is owed again. A new ring is followed, and it stays so through rounds and changes, but for slips and
--- for changes that come within four rounds of one another.
+-- for changes of fibres that come within four rounds of one another.
 use Rattle.std.specs.Prelude.{ℕ, ◌≡◌, ◌≢◌, ◌+◌, ◌*◌, ◌/◌, ◌<◌, ◌≤◌, ◌⊎◌, true, false, Option, Some, None, List, [], ◌∷◌, ◌++◌, length}
 use Rattle.std.specs.Prelude.{slice_get, slice_index_or, All}
 use Rattle.std.specs.Option.{option_map_or}
@@ -166,19 +166,29 @@ IsPlainChange (Hold p turns) = ⊥
 IsPlainChange (Slip port turn count) = ⊥
 IsPlainChange (Now t) = Unit {0}
 
--- a stretch of such changes, with no round after them, or with four or more
-pub record IsPlainStretch (s : Stretch) : Type 0 where
-  pub changes : All IsPlainChange s.changes
-  pub rounds : (s.rounds ≡ 0) ⊎ (4 ≤ s.rounds)
+-- a change that concerns no fibre
+abbrev pub LeavesFibres : Change → Type 0
+LeavesFibres (Fibre p d condition) = ⊥
+LeavesFibres (Order p d command) = Unit {0}
+LeavesFibres (Hold p turns) = Unit {0}
+LeavesFibres (Slip port turn count) = Unit {0}
+LeavesFibres (Now t) = Unit {0}
 
--- Where no port slips and no controller is held, and no fibre changes within four rounds of another change, every
--- stretch of at least 6n + 8 rounds leaves the ring restored, under the requests that the histories give for its last
--- round.
+-- Changes of fibres come at one moment, or four rounds apart or more. `since` is the number of rounds since the last of
+-- them, or since the ring's start. Orders and moments may come in any round.
+abbrev pub FibresWait : ℕ → List Stretch → Type 0
+FibresWait since [] = Unit {0}
+FibresWait since (s ∷ ss) =
+    (All LeavesFibres s.changes × FibresWait (since + s.rounds) ss) ⊎ (((since ≡ 0) ⊎ (4 ≤ since)) × FibresWait s.rounds ss)
+
+-- Where no port slips and no controller is held, and no fibre changes within four rounds of another change of a fibre,
+-- every stretch of at least 6n + 8 rounds leaves the ring restored, under the requests that the histories give for its
+-- last round. Orders may be given in any round, also while a failure or a mending is only a round old.
 abbrev pub PlainStretchesAreRestoredSoon : Type 0
 PlainStretchesAreRestoredSoon =
     (s : Settings) (ids : List ℕ) (circuits : Provisioning) (f : Fibres) (earlier : List Stretch) (last : Stretch) (t : ℕ)
     → MayStart s ids f → MayHappen (new_world s ids circuits f) (earlier ++ last ∷ [])
-    → AreCircuits (length ids) (n_of s.rate / 2) circuits.circuits → All IsPlainStretch (earlier ++ last ∷ [])
-    → 6 * length ids + 8 ≤ last.rounds → rounds_in (earlier ++ last ∷ []) ≡ t + 1
+    → AreCircuits (length ids) (n_of s.rate / 2) circuits.circuits → All (λ (x : Stretch). All IsPlainChange x.changes) (earlier ++ last ∷ [])
+    → FibresWait 0 (earlier ++ last ∷ []) → 6 * length ids + 8 ≤ last.rounds → rounds_in (earlier ++ last ∷ []) ≡ t + 1
     → IsRestored (clocks_by circuits.circuits (earlier ++ last ∷ [])) (after_stretches (earlier ++ last ∷ []) (new_world s ids circuits f))
     (span_requests (length ids) (asked_in s.threshold s.wait (length ids) (earlier ++ last ∷ []) t))
