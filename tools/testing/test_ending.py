@@ -112,6 +112,7 @@ ALL = (
     bench("outage/largest"),
     bench("outage/search", "--help"),
     bench("outage/simulate.py", "run", given="PLAN"),
+    bench("outage/spared", "0"),
     bench("outage/transits", "0"),
     bench("paths/compare", PROGRAM["sdhpath"], "0"),
     bench("plans/mutate.py", "--help"),
