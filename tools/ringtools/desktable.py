@@ -103,7 +103,7 @@ class Table:
         return tuple(self.failures[number].kind for number in case.failures)
 
     def steps(self, case):
-        return tuple(step for number in case.failures for step in self.failures[number].steps)
+        return tuple(step for failure in worst_last([self.failures[number] for number in case.failures]) for step in failure.steps)
 
     def of_depth(self, depth):
         return (case for case in self.cases.values() if len(case.failures) == depth)
@@ -153,6 +153,11 @@ def steps_of(plan, kind, at, side):
         "manual": (f"manual {place}",),
         "forced": (f"forced {place}",),
     }[kind]
+
+
+def worst_last(failures: "list[Failure]") -> "list[Failure]":
+    """Failures in the order of their steps, as the program has it: of two about one fibre or side the worse one comes later, and so holds."""
+    return sorted(failures, key=lambda failure: {"degraded": 0, "forced": 2}.get(failure.kind, 1))
 
 
 def group_failure(number, group, ring):
@@ -277,6 +282,7 @@ class Reading:
         self.model = Model(plan, self.failures)
         self.head = ",".join([*FIELDS, *(circuit.name for circuit in plan.circuits)])
         self.steps = ["".join(f'""{step}"", ' for step in failure.steps) for failure in self.failures]
+        self.first_group = len(self.failures) - len(groups)
         self.ends = {}
 
     def numbers(self, depth, part):
@@ -288,7 +294,13 @@ class Reading:
     def begin(self, place, numbers):
         """What stands before the outcome of a case."""
         names = " + ".join(self.failures[number].called for number in numbers)
-        return f'{place},{names},"{"".join(self.steps[number] for number in numbers)}""settle""",'
+        return f'{place},{names},"{self.steps_text(numbers)}""settle""",'
+
+    def steps_text(self, numbers: tuple[int, ...]) -> str:
+        """The steps of a case as its record has them. The ring's own failures are in the order of their steps."""
+        if numbers and numbers[-1] >= self.first_group:
+            return "".join(f'""{step}"", ' for failure in worst_last([self.failures[number] for number in numbers]) for step in failure.steps)
+        return "".join(self.steps[number] for number in numbers)
 
     def end(self, outcome):
         """The outcome of a case, as its record has it."""
