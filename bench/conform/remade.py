@@ -117,11 +117,13 @@ LEFT_OUT = {
         "sdh_node_cli/a_byte_behind_a_record_is_asked_for", "sdh_node_cli/the_byte_behind_a_line_is_lost", "sdh_node_cli/dark_is_taken_as_a_frame", "sdh_node_cli/a_byte_after_the_plan_is_read",
         "sdh_node_cli/each_line_is_taken_for_a_rounds", "sdh_node_cli/the_end_of_the_plan_is_looked_for_anywhere", "sdh_node_cli/the_newline_byte_stays_in_the_line",
         "sdh_node_cli/an_answer_is_left_out", "sdh_node_cli/an_answer_is_one_round_late", "sdh_node_cli/a_moment_goes_back", "sdh_node_cli/a_port_of_another_node_slips",
+        "sdh_node_cli/a_line_is_read_after_a_failed_write", "sdh_node_cli/a_failed_read_is_out_of_memory", "sdh_node_cli/the_answers_are_kept_back",
+        "sdh_node_cli/each_line_with_an_r_is_a_round_of_a_frame",
     ),
     INSIDE: (
         "sdh_squelch/far_ends_exchanged", "sdh_squelch/names_the_next_circuit", "sdh_squelch/leaves_its_rows_empty_and_searches_arcs_beside_them", "sdh_overhead/written_rows_count_as_read",
         "sdh_interchange/payloads_of_ones_where_none_is_put", "sdh_interchange/payloads_stand_here_before_any_frame", "sdh_node/a_held_round_is_calm", "sdh_node/a_waiting_delivery_follows_a_command",
         "sdh_node/a_waiting_delivery_is_gone_once_a_frame_comes", "sdh_terminal/what_landed_before_goes_back",
     ),
-    OF_PLANS: ("sdh_circuits/overlooks_the_span_from_last_to_first", "sdh_circuits/name_before_trace", "sdh_circuits/takes_a_name_again", "sdh_circuits/takes_offset_783", "sdh_payload/checks_the_trace_before_the_text"),
+    OF_PLANS: ("sdh_node_cli/a_plan_of_two_mebibytes_is_read", "sdh_circuits/overlooks_the_span_from_last_to_first", "sdh_circuits/name_before_trace", "sdh_circuits/takes_a_name_again", "sdh_circuits/takes_offset_783", "sdh_payload/checks_the_trace_before_the_text"),
 }  # fmt: skip

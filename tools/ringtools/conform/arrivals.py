@@ -37,6 +37,7 @@ class Arrival:
     seen: tuple  # the word heard, and the request
     later: tuple  # words that are heard in this round and the two after it
     weight: int = 1
+    repeats: bool = False
 
     def come_out(self, kept: Kept, ask: Choices) -> tuple[tuple, Kept]:
         """Returns the word heard and the request, and what is kept then."""

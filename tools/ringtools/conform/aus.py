@@ -15,11 +15,15 @@ from .node import Node, Stream, aus_of, generate, interpret
 from .terms import AIS, CHUNK, EAST, LOST, NEW, NORM, ONES, SWITCH, WEST, to_port
 
 RULES_OF_POINTERS = (
-    "2.fails", "5.place", "7.ais",
+    "1.framing", "2.fails", "5.place", "7.ais",
     "5.flag", "5.range", "5.majority", "5.spacing", "5.same", "5.new-data", "5.increment", "5.decrement", "5.three-new", "5.three-ais", "5.eight-invalid",
     "5.stays", "5.unknown",
 )  # fmt: skip
 KINDS = "same", "new data", "up", "down", "new", "third", "ais", "third-ais", "bad", "eighth", "late", "early"
+
+
+COUNTS = (2, 1), (2, 2), (3, 1), (3, 7), (5, 1), (5, 2), (6, 0), (6, 1), (6, 2), (6, 3)  # places and values of counts that an interpreter might keep wrong
+MISFIRED = {"5.new-data": "new data", "5.increment": "up", "5.decrement": "down", "5.three-new": "third", "5.three-ais": "third-ais", "5.eight-invalid": "eighth"}
 
 
 class Out(NamedTuple):
@@ -82,6 +86,7 @@ class Lane:
     outs: tuple[Out, ...]
     seen: tuple
     weight: int
+    repeats: bool = True
 
     def come_out(self, kept: tuple, ask: Choices) -> tuple[tuple, tuple]:
         """Returns the words and deliveries that come of it, and what its interpreter keeps."""
@@ -97,19 +102,33 @@ class Lane:
     def taken(self, kept: tuple, ask: Choices) -> tuple[tuple, str]:
         """Returns what the interpreter keeps and its action after a word."""
         word = ask(f"2.fails/{'known' if self.is_known else 'ones'}", "", self.word, {"ones": ONES})
+        word = ask("1.framing/aus", "", word, {"ones": ONES} if self.is_known else {})
         then, action, cases = interpret(kept, word)
-        result, others = (then, action), all_taken(kept, word & 0x3FF)
+        result = then, action
+        if ask.rule and not ask.rule.startswith("5."):
+            return result
+        others = all_taken(kept, word & 0x3FF) | self.as_seen() if ask.rule else {}
+        if ask.follows:
+            others = others | {f"{action}|{at}={count}": ((*then[:at], count, *then[at + 1 :]), action) for at, count in COUNTS}
         result = ask("5.place/bytes", "", result, others)
         for case in cases:
             result = ask(case, saw_of(case.partition("/")[0], kept, word, case), result, others)
+        for rule, kind in MISFIRED.items():
+            if not any(case.startswith(f"{rule}/") for case in cases):
+                result = ask(f"{rule}/not", kept[0], result, {kind: taken_as(kept, kind, word & 0x3FF)})
         return result
+
+    def as_seen(self) -> dict[str, tuple]:
+        """Returns the results that take the values which leave."""
+        values = {out.seen[1] if out.key[0] == "port" else out.seen[0] & 0x3FF for out in self.outs if out.seen and out.seen[0] not in ("ais", ONES)}
+        return {f"new|as {value}": ((NORM, value, 0, 0, 0, 0, 0), "new") for value in values}
 
     def left(self, out: Out, action: str, value: int) -> tuple:
         """Returns what leaves at one of its outlets."""
         if out.key[0] == "port":
             return ("ais",) if action == "ais" else ("norm", value, self.payload[:16].hex())
         word = generate(out.kept, action, value)[0]
-        return word, ONES if word == ONES else self.payload
+        return word, ALL_ONES if word == ONES else self.payload
 
 
 @dataclass(frozen=True)
@@ -122,6 +141,7 @@ class Own:
     outs: tuple[Out, ...]
     seen: tuple
     weight: int
+    repeats: bool = False
 
     def come_out(self, kept: tuple, ask: Choices) -> tuple[tuple, tuple]:
         """Returns what leaves, and what the clock keeps: value, position, round, ups and downs that wait, the last justification."""
@@ -132,7 +152,7 @@ class Own:
         case = form if form != "normal" else "none-waits" if not (up or down) else "early" if t < 4 else "too-soon"
         form = ask(f"8.clock/{case}", (min(t, 5), None if last is None else min(t - last, 5), up > 0, down > 0), form, ("up", "down", "normal"))
         moved = (value + {"up": 1, "down": -1, "normal": 0}[form]) % 783
-        moved = ask(f"8.value/{'over' if abs(moved - value) > 1 else 'moved' if form != 'normal' else 'stays'}", (form, value), moved, {"one more": (value + 1) % 783, "one less": (value - 1) % 783, "the same": value, "above": value + 1, "below": value - 1})
+        moved = ask(f"8.value/{'over' if abs(moved - value) > 1 else 'moved' if form != 'normal' else 'stays'}", (form, value), moved, {"one more": (value + 1) % 783, "one less": (value - 1) % 783, "the same": value, "above": value + 1, "below": value - 1} | {f"as seen|{out.seen[0] & 0x3FF}": out.seen[0] & 0x3FF for out in self.outs if out.seen[0] >> 12 == 9})
         payload, h3 = ask(f"8.justification/{form}", form, self.stream.payload(position, form), self.justified(form))
         payload = self.filled(payload, moved, ask)
         ups, downs = max(0, up - (form == "up")), max(0, down - (form == "down"))
@@ -244,7 +264,7 @@ def kept_after(kept: int | None, word: int, right: int) -> int | None:
     for more, bits in ((0, 0), (1, 0x2AA), (-1, 0x155)):
         if kept is not None and word & 0x3FF == kept ^ bits:
             return (kept + more) % 783
-    return word & 0x3FF
+    return word & 0x3FF if word == right else kept_after(kept, right, right)
 
 
 ALL_ONES = b"\xff" * CHUNK
@@ -317,8 +337,8 @@ class Outlet:
         yield from self.misfired(rule, fits)
         elsewhere = [name for name in fits if " in " in name]
         if self.of.origin is not None and len(self.of.origin) == 3:
-            silent, right = self.made_of(None), self.right()
-            is_other = self.of.seen[:2] != silent[:2] and self.of.seen[-2:] != right[-2:] and len(elsewhere) == len(fits)
+            at = 1 if self.of.key[0] == "au" else -1
+            is_other = self.of.seen[0] not in ("ais", ONES) and self.of.seen[at] != self.right()[at] and len(elsewhere) == len(fits)
             yield "5.place", "bytes", self.slot(), ["others"] if is_other else []
         kind = "working" if self.of.key[0] == "port" or self.of.key[2] == "w" else "protection"
         yield "6.place", kind, self.slot(), elsewhere
@@ -360,7 +380,7 @@ class Outlet:
     def place(self) -> tuple[str, str, object]:
         """The rule of its origin, the case, and what the rule sees."""
         rule, _, case = self.of.case.partition("/")
-        d = self.side()
+        d, case = self.side(), "working" if case == "to-port" and rule == "6.through" else "from-protection" if case == "to-port" else case
         if rule == "6.squelch":
             return rule, case, self.squelched(d)
         return rule, case, (d, self.node.state[0], self.of.key[0])

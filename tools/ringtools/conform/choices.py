@@ -8,7 +8,8 @@ from dataclasses import dataclass, field
 from typing import NamedTuple, Protocol
 
 RIGHT = "right"
-MOST_KEPT = 24  # ways in which what is kept may have come about
+LATE = 8  # rounds after which a wrong result is seen at the latest
+AHEAD = 4  # rounds after a wrong answer by which ways that explain it are told apart
 MOST = 2  # results of the suspended rule in a round that may be wrong
 
 
@@ -24,8 +25,9 @@ class Made(NamedTuple):
 class Choices:
     """Where rules give their results. Those of the suspended rule are taken from a script, and are right after its end."""
 
-    def __init__(self, rule: str = "", script: tuple[int, ...] = ()) -> None:
+    def __init__(self, rule: str = "", script: tuple[int, ...] = (), follows: bool = False) -> None:
         self.rule, self.script, self.made, self.asked = rule, script, [], set()
+        self.follows = follows  # whether what is kept matters, which is seen later
 
     def __call__(self, name: str, saw: Hashable, right, others: Iterable | dict = ()):
         """Returns what a rule gives in one of its cases, by `name`, for what it sees. Other results have names, or are their own ones."""
@@ -34,7 +36,7 @@ class Choices:
             self.asked.add(rule)
             return right
         named = others if type(others) is dict else {name_of(other): other for other in others}
-        options = [(RIGHT, right), *((name, other) for name, other in named.items() if other != right)]
+        options = [(next((name for name, other in named.items() if other == right), RIGHT), right), *((name, other) for name, other in named.items() if other != right)]
         at = len(self.made)
         chosen = self.script[at] if at < len(self.script) else 0
         self.made.append(Made(case, saw, options, chosen))
@@ -54,11 +56,11 @@ def name_of(result: object) -> Hashable:
 Stage = Callable[[Choices], object]
 
 
-def ways(stage: Stage, rule: str, most: int = MOST) -> Iterator[tuple[object, list[Made]]]:
+def ways(stage: Stage, rule: str, most: int = MOST, follows: bool = False) -> Iterator[tuple[object, list[Made]]]:
     """Gives what a stage can come out as with a rule suspended, and the results of the rule; those with fewest wrong ones first."""
     scripts: list[tuple[int, ...]] = [()]
     for script in scripts:
-        choices = Choices(rule, script)
+        choices = Choices(rule, script, follows)
         yield stage(choices), choices.made
         if sum(map(bool, script)) < most:
             for at in range(len(script), len(choices.made)):
@@ -109,9 +111,14 @@ class Evidence:
                 mine.fits.update(seen.fits)
 
     def cost(self) -> int:
-        """Returns how much has to be said beside the rule's name: a case that has another result counts as one, something seen in a case that has one as
-        two, and each answer that then still doesn't fit as one."""
-        return sum(map(cost_of_case, self.table.values()))
+        """Returns how much has to be said beside the rule's name: that it or a case of it always has another result counts as one, that something seen in
+        a case has one as two, and each answer that then still doesn't fit as one."""
+        whole = Details()
+        for details in self.table.values():
+            for saw, seen in details.items():
+                whole[""].asked += seen.asked
+                whole[""].fits.update(seen.fits)
+        return min(sum(map(cost_of_case, self.table.values())), 1 + whole[""].asked - max(whole[""].fits.values(), default=0))
 
     def broken(self) -> list[str]:
         """Returns the cases that aren't right in all answers."""
@@ -131,9 +138,9 @@ def cost_of_case(details: Details) -> int:
 Tables = dict[str, Evidence]
 
 
-def look(stage: Stage, rules: Iterable[str], seen: object, tables: Tables) -> bool:
+def look(stage: Stage, rules: Iterable[str], seen: object, tables: Tables, key: Hashable = None) -> bool:
     """Counts for each rule what a stage says of it that should have come out as what was seen; returns whether it did with all rules obeyed."""
-    is_right = agree(stage, seen, tables)
+    is_right = agree(stage, seen, tables, key)
     for rule in rules if not is_right else ():
         evidence = tables[rule]
         found = next((made for came, made in ways(stage, rule) if came == seen), None)
@@ -143,15 +150,31 @@ def look(stage: Stage, rules: Iterable[str], seen: object, tables: Tables) -> bo
     return is_right
 
 
-def agree(stage: Stage, seen: object, tables: Tables) -> bool:
-    """Counts the results of rules that have to be right where a stage comes out as it was seen; returns whether it does."""
+def agree(stage: Stage, seen: object, tables: Tables, key: Hashable = None) -> bool:
+    """Counts the results of rules that matter where a stage comes out as it was seen; returns whether it does. Stages of the same key are the same."""
+    if key is None or key not in KNOWN:
+        found = matter(stage, seen)
+        if key is not None and found is not None:
+            if len(KNOWN) > MOST_KNOWN:
+                KNOWN.clear()
+            KNOWN[key] = found
+    else:
+        found = KNOWN[key]
+    for rule, case, saw, names in found or ():
+        tables[rule].table[case][saw].add(names)
+    return found is not None
+
+
+KNOWN: dict[Hashable, list[tuple]] = {}
+MOST_KNOWN = 4096
+
+
+def matter(stage: Stage, seen: object) -> list[tuple] | None:
+    """Returns the results of rules that matter, or None where a stage comes out otherwise than it was seen."""
     right = Choices()
     if stage(right) != seen:
-        return False
-    for rule in right.asked:
-        for case, saw, names in fitting(stage, rule, seen):
-            tables[rule].table[case][saw].add(names)
-    return True
+        return None
+    return [(rule, *found) for rule in right.asked for found in fitting(stage, rule, seen)]
 
 
 def fitting(stage: Stage, rule: str, seen: object) -> Iterator[tuple[str, Hashable, set]]:
@@ -161,7 +184,7 @@ def fitting(stage: Stage, rule: str, seen: object) -> Iterator[tuple[str, Hashab
     for at, one in enumerate(first.made):
         names = [name for other, (name, _) in enumerate(one.options) if other and stage(Choices(rule, (0,) * at + (other,))) == seen]
         if len(names) + 1 < len(one.options):
-            yield one.case, one.saw, {RIGHT, *map(seen_as, names)}
+            yield one.case, one.saw, {RIGHT, seen_as(one.options[0][0]), *map(seen_as, names)}
 
 
 # -- what is kept from round to round
@@ -172,54 +195,83 @@ class Step(Protocol):
 
     seen: object
     weight: int  # how many answers it is
+    repeats: bool  # whether the same often comes again
 
     def come_out(self, kept: Hashable, ask: Choices) -> tuple[object, Hashable]: ...
 
 
-class Path(NamedTuple):
-    """A way in which what is kept came about: answers that it doesn't explain, wrong results, and a chain of these."""
+class Way(NamedTuple):
+    """A wrong result that explains what was seen later: the step, what is kept after each step from it on, the results, and how many steps more it fits."""
 
-    unexplained: int
-    wrong: int
-    made: tuple
-
-
-def follow(steps: Iterable[Step], kept: Hashable, rule: str, evidence: Evidence) -> int:
-    """Finds how a suspended rule comes by all that was seen with fewest wrong results, and counts these; returns how many answers are left."""
-    paths = {kept: Path(0, 0, ())}
-    for step in steps:
-        found: dict[Hashable, Path] = {}
-        for before, path in paths.items():
-            for (seen, then), made in ways(lambda ask, step=step, before=before: step.come_out(before, ask), rule):
-                if seen == step.seen:
-                    wrong = [one for one in made if one.chosen]
-                    keep(found, then, Path(path.unexplained, path.wrong + len(wrong), (wrong, path.made) if wrong else path.made))
-        if not found:
-            for before, path in paths.items():
-                keep(found, step.come_out(before, Choices())[1], path._replace(unexplained=path.unexplained + step.weight))
-        paths = dict(sorted(found.items(), key=lambda one: one[1][:2])[:MOST_KEPT])
-    best = min(paths.values(), key=lambda path: path[:2])
-    chain = best.made
-    while chain:
-        evidence.add(chain[0])
-        chain = chain[1]
-    return best.unexplained
+    at: int
+    kept: list
+    made: list[Made]
+    fits: int
 
 
-def keep(found: dict[Hashable, Path], kept: Hashable, path: Path) -> None:
-    if kept not in found or path[:2] < found[kept][:2]:
-        found[kept] = path
+class Follower:
+    """What a suspended rule says from round to round, so that all that was seen comes out."""
+
+    def __init__(self, steps: list[Step], kept: Hashable, rule: str) -> None:
+        self.steps, self.rule, self.kept = steps, rule, [kept]
+        self.made: dict[int, list[Made]] = {}
+
+    def follow(self, evidence: Evidence) -> int:
+        """Follows all steps and counts the wrong results; returns how many answers are left. A rule that doesn't explain the first wrong answer explains none."""
+        left = 0
+        for at, step in enumerate(self.steps):
+            came, then = step.come_out(self.kept[at], Choices())
+            if came == step.seen:
+                self.kept.append(then)
+            elif way := self.way(at):
+                self.kept[way.at + 1 :] = way.kept
+                self.made[way.at] = way.made
+            elif not self.made:
+                return sum(step.weight for step in self.steps)
+            else:
+                self.kept.append(then)
+                left += step.weight
+        for made in self.made.values():
+            evidence.add(made)
+        return left
+
+    def way(self, at: int) -> Way | None:
+        """Returns the latest wrong result by which a step comes out as it was seen, and of these the one that fits most of the steps after it."""
+        for begin in range(at, max(-1, at - LATE), -1):
+            if begin in self.made:
+                return None
+            if found := [way for way in self.ways(begin, at) if way]:
+                return max(found, key=lambda way: way.fits)
+        return None
+
+    def ways(self, begin: int, at: int) -> Iterator[Way | None]:
+        step, before = self.steps[begin], self.kept[begin]
+        for (came, then), made in ways(lambda ask: step.come_out(before, ask), self.rule, 1, True):
+            if came == step.seen and (wrong := [one for one in made if one.chosen]):
+                yield self.fitting(begin, at, then, wrong)
+
+    def fitting(self, begin: int, at: int, then: Hashable, wrong: list[Made]) -> Way | None:
+        kept = [then]
+        for number in range(begin + 1, min(len(self.steps), at + 1 + AHEAD)):
+            came, then = self.steps[number].come_out(kept[-1], Choices())
+            if came != self.steps[number].seen:
+                return Way(begin, kept[: at - begin + 1], wrong, number - at) if number > at else None
+            kept.append(then)
+        return Way(begin, kept[: at - begin + 1], wrong, AHEAD + 1)
 
 
 def follow_all(steps: list[Step], kept: Hashable, rules: Iterable[str], tables: Tables) -> int:
     """Counts what the steps say of each rule; returns how many answers are wrong."""
-    begin, wrong = kept, 0
-    for step in steps:
-        stage = lambda ask, kept=kept, step=step: step.come_out(kept, ask)[0]
-        if not agree(stage, step.seen, tables):
+    begin, wrong = [kept], 0
+    first = len(steps)
+    for at, step in enumerate(steps):
+        stage = lambda ask, kept=begin[-1], step=step: step.come_out(kept, ask)[0]
+        if not agree(stage, step.seen, tables, (step, begin[-1]) if step.repeats else None):
             wrong += step.weight
-        kept = step.come_out(kept, Choices())[1]
+            first = min(first, at)
+        begin.append(step.come_out(begin[-1], Choices())[1])
     if wrong:
+        from_here = max(0, first - LATE)
         for rule in rules:
-            tables[rule].explains += wrong - follow(steps, begin, rule, tables[rule])
+            tables[rule].explains += wrong - Follower(steps[from_here:], begin[from_here], rule).follow(tables[rule])
     return wrong

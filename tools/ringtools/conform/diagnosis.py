@@ -147,7 +147,7 @@ class Look:
         due = [inlet.take(came)[0] == SF for inlet, came in zip(self.inlets, record)]
         fails = tuple(asks == SF or asks == FS and due[d] for d, asks in enumerate(of.asks))
         local = Local(node.me, node.ids, node.neighbours, of.asks, fails, of.heard, self.held, self.was_held, self.before, seen)
-        is_right = look(local.come_out, RULES_OF_WORDS, seen, self.tables)
+        is_right = look(local.come_out, RULES_OF_WORDS, seen, self.tables, local)
         self.was_held, self.held, self.before = self.held > 0, max(0, self.held - 1), seen
         return is_right
 

@@ -79,10 +79,10 @@ class Words:
         e, of, ask, words = 1 - d, self.of, self.ask, {}
         if self.weight[d] > 0:
             code = self.of.asks[d] if self.of.asks[d] >= self.short[d] else RR
-            words["short"] = self.weight[d], ask(f"4.short-word/{LETTERS.get(code)}", (of.asks[d], self.short[d]), (code, of.neighbours[d], of.me, SHORT), (self.sent(d),))
+            words["short"] = self.weight[d], ask(f"4.short-word/{LETTERS.get(code)}", (of.asks[d], self.short[d]), (code, of.neighbours[d], of.me, SHORT), self.sent(d))
         if self.weight[e] > 0:
             word = self.weight[e], of.neighbours[e], of.me, LONG
-            words["long"] = self.weight[e], ask(f"4.long-word/{LETTERS.get(self.weight[e])}", self.weight[e], word, (self.sent(d),))
+            words["long"] = self.weight[e], ask(f"4.long-word/{LETTERS.get(self.weight[e])}", self.weight[e], word, self.sent(d))
         word = self.long[e]
         if word:
             to_me, mine = word[1] == of.me, word[2] == of.me
@@ -92,8 +92,9 @@ class Words:
         return words
 
     def sent(self, d: int) -> tuple:
-        """The word that the device sent on a side, without its mark."""
-        return self.of.seen[2 + d][:4]
+        """The word that the device sent on a side, without its mark, if it isn't one that it heard on the other side."""
+        word, heard = self.of.seen[2 + d], self.of.heard[1 - d]
+        return () if heard is not None and word[:4] == heard[:4] else (word[:4],)
 
     def chosen(self, d: int) -> tuple[str, tuple]:
         words, weights, mine, other = self.offered(d), [], self.weight[d], self.weight[1 - d]
@@ -102,7 +103,7 @@ class Words:
         if kind in words:
             return kind, words[kind][1]
         if not words:
-            return "none", self.ask("4.no-word/none", (), (NR, self.of.neighbours[d], self.of.me, SHORT), (self.sent(d),))
+            return "none", self.ask("4.no-word/none", (), (NR, self.of.neighbours[d], self.of.me, SHORT), self.sent(d))
         weights = {name: weight for name, (weight, _) in words.items()}
         top = max(weights.values())
         best = next(name for name in ("short", "long", "relayed") if weights.get(name) == top)
