@@ -175,7 +175,7 @@ class Hostile(Folder):
             frames = "".join(f'<iframe src="{number}.html" width="900" height="700"></iframe>' for number in range(len(pages)))
             (Path(folder) / "all.html").write_text(f"<!DOCTYPE html><body>{frames}</body>", encoding="utf-8")
             words = [BROWSER, *WORDS, "--virtual-time-budget=8000", f"--user-data-dir={folder}/own", "--dump-dom", f"file://{folder}/all.html"]
-            subprocess.run(words, capture_output=True, timeout=120)
+            subprocess.run(words, capture_output=True, timeout=900)
         return sorted(self.listener.asked)
 
     @unittest.skipUnless(BROWSER, "there is no chromium")
