@@ -205,7 +205,7 @@ def statement_of(tree, path):
     return found
 
 
-def sites(changes=changes):
+def sites():
     """All places that can be changed, and how, in the order of the source."""
     tree, seen = ast.parse(SOURCE), Counter()
     for function, path, top in functions(tree):
@@ -265,31 +265,8 @@ class Quiet(ast.NodeTransformer):
 QUIET = compile(ast.fix_missing_locations(Quiet().visit(ast.parse(SOURCE))), "mutant", "exec")
 
 
-def mended(wrong, right):
-    """A function that does what the right one does where the wrong one raises an exception."""
-
-    def tried(*given):
-        try:
-            return wrong(*given)
-        except Exception:
-            return right(*given)
-
-    return tried
-
-
-def mend(module, site):
-    """Mends the changed function of a module, or the changed method of a class."""
-    name, _, method = site.place.partition(".")
-    if method:
-        wrong = getattr(module, name)
-        setattr(wrong, method, mended(getattr(wrong, method), getattr(getattr(plain, name), method)))
-    else:
-        setattr(module, name, mended(getattr(module, name), getattr(plain, name)))
-
-
-def made(site, is_mended=False):
-    """The module of a mutant. What doesn't use the changed definition is shared with the plain node, with all that was computed by it. With `is_mended` what
-    is changed is done rightly where it raises an exception."""
+def made(site):
+    """The module of a mutant. What doesn't use the changed definition is shared with the plain node, with all that was computed by it."""
     module = types.ModuleType("mutant")
     module.__package__ = plain.__package__
     exec(QUIET, module.__dict__)
@@ -297,6 +274,4 @@ def made(site, is_mended=False):
     for name, used in USED.items():
         if not site.tops & used:
             module.__dict__[name] = getattr(plain, name)
-    if is_mended:
-        mend(module, site)
     return module

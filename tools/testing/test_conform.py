@@ -24,14 +24,11 @@ sys.path[:0] = [str(TOP / "bench" / "conform"), str(TOP / "bench" / "aps")]
 import frames as plain_frames
 import equal
 import mutating
-import others
 import remade
 from ringtools.conform.arriving import Making, Plan, circuit
-from ringtools.conform.diagnosis import Diagnosis
 from ringtools.conform.judging import Judge
 from ringtools.conform.rules import RULES, views
-from ringtools.conform.running import answers_of
-from ringtools.conform.suite import GROUPS, RINGS, again, suite
+from ringtools.conform.suite import GROUPS, RINGS, suite
 from ringtools.conform.telling import Told, as_junit, as_page, as_table
 from ringtools.origin import find_program
 
@@ -39,7 +36,6 @@ SDHNODE = TOP / "dist" / "sdhnode"
 TRIAL = TOP / "examples" / "bench" / "node-in-python"
 PAGE = (TOP / "docs" / "NODE.md").read_text(encoding="utf-8")
 SHORT = 12  # each so-many-th stream of a group is run here
-LOOKED_AT = 2  # streams in which a mutant fails before it answers no more
 # The ten mutants: where a mistake is made, what is changed, and the rule that is broken.
 TEN = (
     ("hears", "if not first[at] == second[at] == last[at]: left out", "2.heard"),
@@ -128,35 +124,25 @@ class Mutants(unittest.TestCase):
         sites = {(site.place, site.what): site for site in mutating.sites()}
         program = find_program([str(TOP / "sdhnode")])
         cls.mutants = [MUTANTS.Mutant(number, sites[place, what]) for number, (place, what, _) in enumerate(TEN)]
+        cls.reached = Counter(), Counter()
         functions = {name: getattr(mutating.plain, name) for name in mutating.ENTRIES}
         for stream in suite(tuple(group for group in GROUPS if group != "states"), SHORT):
             calls = {name: MUTANTS.Calls(function) for name, function in functions.items()}
             mutating.plain.__dict__.update(calls)
             rounds = MUTANTS.rounds_of(program, stream)
             mutating.plain.__dict__.update(functions)
+            for round in rounds:
+                cls.reached[0].update(round.cases)
+                cls.reached[1].update(round.passes())
             for mutant in cls.mutants:
-                if len(mutant.judge.failures) < LOOKED_AT:
-                    mutant.run(stream, rounds, calls)
+                mutant.run(stream, rounds, calls)
 
     def test_each_is_found_and_its_rule_is_named(self):
         for mutant, (place, what, rule) in zip(self.mutants, TEN):
             with self.subTest(place=place, what=what):
                 self.assertIsNone(mutant.raised)
                 self.assertIn(rule, mutant.site.rules)
-                self.assertEqual(mutant.judge.blamed()[0][0][0], rule)
-
-    def test_right_answers_are_those_of_a_node_that_breaks_no_rule(self):
-        program = find_program([str(TOP / "sdhnode")])
-        for group in ("states", "holding", "defects", "pointers", "customers"):
-            stream, diagnosis = again((group, 1)), Diagnosis()
-            diagnosis.take(stream, answers_of(program, stream))
-            with self.subTest(stream=stream.name):
-                self.assertEqual((diagnosis.wrong, diagnosis.ranked()), (0, []))
-
-    def test_the_second_set_is_of_other_changes(self):
-        first, second = ({site.key for site in mutating.sites(*changes)} for changes in ((), (others.changes,)))
-        self.assertEqual(first & second, set())
-        self.assertGreaterEqual(len(second), 200)
+                self.assertIn(rule, MUTANTS.named(mutant, self.reached)[0])
 
     def test_what_is_listed_as_the_same_is_a_place_that_can_be_changed(self):
         keys = {site.key for site in mutating.sites()}

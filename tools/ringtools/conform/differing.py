@@ -3,10 +3,11 @@
 from __future__ import annotations
 
 import re
-from collections.abc import Iterator
+from collections.abc import Iterable, Iterator
 from dataclasses import dataclass
 
-from ..benched import Answer, BenchProblem, is_scrambled_otherwise, read_answer, sequence
+from ..benched import BenchProblem, is_scrambled_otherwise, read_answer, sequence
+from .rules import EACH_FRAME
 from .terms import COLUMNS, HEAD, ONES, PAYLOAD, ROWS, SIDES
 
 LINE = ("heard_west", "heard_east", "asks_west", "asks_east", "state", "far", "west", "east")
@@ -29,10 +30,22 @@ class Difference:
     cases: frozenset[str]
 
 
+@dataclass(frozen=True)
+class Field:
+    """A field of an answer: how far along a node's own way it is made, the cases that decide it, and what differs, if anything does."""
+
+    stage: int
+    cases: Iterable[str]
+    difference: Difference | None = None
+    lane: object = None  # what it is a field of: a word, a port, an AU-4
+
+
 NO_ANSWER = "the form of an answer"  # the name of a field, where the bytes are no answer
+HEARD, STATE, WORDS, LEAVES = range(4)  # the stages
+STAGES = {"heard": HEARD, "asks": HEARD, "state": STATE, "far": STATE, "west": WORDS, "east": WORDS}
 
 
-def parsed(text: bytes) -> Answer | None:
+def parsed(text: bytes):
     """Returns an answer, or None where the bytes are none."""
     try:
         answer, after = read_answer(text, 0)
@@ -50,24 +63,40 @@ def difference(due: bytes, came: bytes, trace: dict) -> Difference | None:
     """Returns the first difference of two answers, or None."""
     if due == came:
         return None
-    return next(differences(due, came, trace), Difference(NO_ANSWER, front(due), front(came), frozenset()))
+    return next((field.difference for field in fields(due, came, trace) if field.difference), Difference(NO_ANSWER, front(due), front(came), frozenset()))
 
 
-def differences(due: bytes, came: bytes, trace: dict) -> Iterator[Difference]:
-    """Gives the fields in which two answers differ, one by one."""
+def fields(due: bytes, came: bytes, trace: dict) -> Iterator[Field]:
+    """Gives the fields of an answer, each beside what was due."""
     ours, theirs = parsed(due), parsed(came)
-    for find in (in_line, in_ports, in_frames) if theirs is not None else ():
+    if theirs is None:
+        yield Field(HEARD, (), Difference(NO_ANSWER, front(due), front(came), frozenset()))
+        return
+    for find in (in_line, in_ports, in_frames):
         yield from find(ours, theirs, trace)
 
 
-def in_line(ours: Answer, theirs: Answer, trace: dict) -> Iterator[Difference]:
+def told_apart(due: bytes, came: bytes, trace: dict) -> tuple[list[Field], list[Field]]:
+    """Returns the fields that differ in two answers and that no earlier one can be the reason of, and those that agree."""
+    found = list(fields(due, came, trace))
+    wrong = [field for field in found if field.difference]
+    first = min((field.stage for field in wrong), default=LEAVES)
+    # Words that leave decide no AU-4, but the K bytes of the frame.
+    kept = [field for field in wrong if field.stage == first or first == WORDS and "9.k-bytes/places" not in field.difference.cases]
+    return kept, [field for field in found if not field.difference]
+
+
+def in_line(ours, theirs, trace) -> Iterator[Field]:
     for key in ("round", "node"):
         if ours.fields[key] != theirs.fields[key]:
-            yield Difference(f"the {key}'s number", ours.fields[key], theirs.fields[key], frozenset())
+            yield Field(HEARD, (), Difference(f"the {key}'s number", ours.fields[key], theirs.fields[key], frozenset()))
     for key in LINE:
         due, came, field = ours.fields[key], theirs.fields[key], key.replace("_", " ")
-        if due != came:
-            yield Difference(NAMES[key], due, came, decided(trace, [field], stages_of(field.partition(" ")[0], due, came)))
+        kind = field.partition(" ")[0]
+        if due == came:
+            yield Field(STAGES[kind], trace.get(field, ()), None, key)
+        else:
+            yield Field(STAGES[kind], (), Difference(NAMES[key], due, came, decided(trace, [field], stages_of(kind, due, came))), key)
 
 
 OF_CHOICE = ("4.first-11", "4.heaviest", "4.short-word", "4.long-word", "4.relays", "4.no-word", "4.long/", "4.short/", "4.weight", "4.held")
@@ -115,27 +144,32 @@ def decided(trace: dict, fields: list, stages: tuple[str, ...] = ()) -> frozense
     return frozenset(case for case in found if not stages or not case[0].isdigit() or case.startswith(stages))
 
 
-def in_ports(ours: Answer, theirs: Answer, trace: dict) -> Iterator[Difference]:
+def in_ports(ours, theirs, trace) -> Iterator[Field]:
     for mine, other in zip(ours.ports, theirs.ports):
         name = f"port {mine[0]}"
-        if mine[0] != other[0]:
-            yield Difference("the order of ports", name, f"port {other[0]}", frozenset())
-        elif mine != other:
+        if mine == other:
+            yield Field(LEAVES, [*trace.get((name, "place"), ()), *trace.get((name, "pointer"), ())], None, name)
+        elif mine[0] != other[0]:
+            yield Field(LEAVES, (), Difference("the order of ports", name, f"port {other[0]}", frozenset()))
+        else:
             here, there = mine[1].split(" "), other[1].split(" ")
             parts = ["place", "pointer"] if len(here) != len(there) else ["pointer"] if here[-1] == there[-1] else ["place"]
-            yield Difference(f"what {name} delivers", mine[1], other[1], decided(trace, [(name, part) for part in parts]))
+            yield Field(LEAVES, (), Difference(f"what {name} delivers", mine[1], other[1], decided(trace, [(name, part) for part in parts])), name)
     if len(ours.ports) != len(theirs.ports):
-        yield Difference("the number of ports", str(len(ours.ports)), str(len(theirs.ports)), frozenset())
+        yield Field(LEAVES, (), Difference("the number of ports", str(len(ours.ports)), str(len(theirs.ports)), frozenset()))
 
 
-def in_frames(ours: Answer, theirs: Answer, trace: dict) -> Iterator[Difference]:
+def in_frames(ours, theirs, trace) -> Iterator[Field]:
     if theirs.frames is None or len(ours.frames) != len(theirs.frames):
-        yield Difference("the bytes of both frames", str(len(ours.frames)), str(len(theirs.frames or b"")), frozenset(["9.columns/payloads"]))
+        yield Field(LEAVES, (), Difference("the bytes of both frames", str(len(ours.frames)), str(len(theirs.frames or b"")), frozenset(["9.columns/payloads"])))
         return
     size = len(ours.frames) // 2
     for d in range(len(SIDES)):
         due, came = (frames[size * d : size * (d + 1)] for frames in (ours.frames, theirs.frames))
-        if due != came:
+        if due == came:
+            yield Field(LEAVES, EACH_FRAME)
+            yield from (Field(LEAVES, cases, None, key[1:3]) for key, cases in trace.items() if key[:2] == ("au", d))
+        else:
             yield from in_frame(due, came, d, trace)
 
 
@@ -165,23 +199,33 @@ class Clear:
         return self.body[au :: self.n]
 
 
-def in_frame(due: bytes, came: bytes, d: int, trace: dict) -> Iterator[Difference]:
-    """Gives what differs in two frames, by the order in which a node makes them."""
+def in_frame(due: bytes, came: bytes, d: int, trace: dict) -> Iterator[Field]:
+    """Gives the fields of two frames, by the order in which a node makes them."""
     ours, theirs, n = Clear(due), Clear(came), len(due) // (ROWS * COLUMNS)
     side = f"the frame to the {SIDES[d]}"
     if is_scrambled_otherwise(ours.data, theirs.data, n):
         at = next(i for i, pair in enumerate(zip(ours.data, theirs.data)) if pair[0] != pair[1])
-        yield Difference(f"{side}, the scrambling", due[at : at + 8].hex(), came[at : at + 8].hex(), frozenset(["9.scrambling/sequence"]))
+        yield Field(LEAVES, (), Difference(f"{side}, the scrambling", due[at : at + 8].hex(), came[at : at + 8].hex(), frozenset(["9.scrambling/sequence"])))
         return
     if ours.rows[0][: HEAD * n] != theirs.rows[0][: HEAD * n]:
-        yield stretch(f"{side}, row 1", ours.rows[0][: HEAD * n], theirs.rows[0][: HEAD * n], "9.row-1/constants")
+        yield Field(LEAVES, (), stretch(f"{side}, row 1", ours.rows[0][: HEAD * n], theirs.rows[0][: HEAD * n], "9.row-1/constants"))
     k = [tuple(frame.rows[4][at] for at in (3 * n, 6 * n)) for frame in (ours, theirs)]
     if k[0] != k[1]:
-        yield Difference(f"{side}, K1 and K2", *("{:02x} {:02x}".format(*one) for one in k), frozenset(["9.k-bytes/places"]))
+        yield Field(LEAVES, (), Difference(f"{side}, K1 and K2", *("{:02x} {:02x}".format(*one) for one in k), frozenset(["9.k-bytes/places"])))
     for au in range(n):
-        if found := of_au(ours, theirs, (d, au), f"{side}, AU-4 {au + 1}", trace):
-            yield found
+        yield in_au(ours, theirs, (d, au), side, trace)
     yield from in_overhead(ours, theirs, side, n)
+
+
+def in_au(ours: Clear, theirs: Clear, place: tuple[int, int], side: str, trace: dict) -> Field:
+    """Returns what differs first in one AU-4."""
+    key = ("au", *place)
+    if found := of_au(ours, theirs, place, f"{side}, AU-4 {place[1] + 1}", trace):
+        return Field(LEAVES, (), found, place)
+    return Field(LEAVES, {case for part in PARTS for case in trace.get((*key, part), ())}, None, place)
+
+
+PARTS = ("place", "pointer", "payload", "h3")
 
 
 def of_au(ours: Clear, theirs: Clear, place: tuple[int, int], where: str, trace: dict) -> Difference | None:
@@ -217,20 +261,20 @@ def of_payload(cases: frozenset[str], word: int, payloads: list[bytes]) -> froze
     return frozenset(case for case in cases if not case.startswith("path.") or case.startswith(wanted))
 
 
-def in_overhead(ours: Clear, theirs: Clear, side: str, n: int) -> Iterator[Difference]:
+def in_overhead(ours: Clear, theirs: Clear, side: str, n: int) -> Iterator[Field]:
     """Gives what differs in the rest of the section overhead: parities last, since they are those of the frame before."""
     fifth = [one.rows[4][: 3 * n] for one in (ours, theirs)]
     if fifth[0] != fifth[1]:
-        yield stretch(f"{side}, B2", fifth[0], fifth[1], "9.b2/parity")
+        yield Field(LEAVES, (), stretch(f"{side}, B2", fifth[0], fifth[1], "9.b2/parity"), "B2")
     if ours.rows[1][0] != theirs.rows[1][0]:
-        yield Difference(f"{side}, B1", f"{ours.rows[1][0]:02x}", f"{theirs.rows[1][0]:02x}", frozenset(["9.b1/parity"]))
+        yield Field(LEAVES, (), Difference(f"{side}, B1", f"{ours.rows[1][0]:02x}", f"{theirs.rows[1][0]:02x}", frozenset(["9.b1/parity"])), "B1")
     for row, first in ((1, 1), (2, 0), (4, 3 * n), (5, 0), (6, 0), (7, 0), (8, 0)):
         heads = [bytearray(one.rows[row][first : HEAD * n]) for one in (ours, theirs)]
         if row == 4:
             for head in heads:
                 head[0] = head[3 * n] = 0  # K1 and K2
         if heads[0] != heads[1]:
-            yield stretch(f"{side}, row {row + 1}, overhead", bytes(heads[0]), bytes(heads[1]), "9.row-1/constants")
+            yield Field(LEAVES, (), stretch(f"{side}, row {row + 1}, overhead", bytes(heads[0]), bytes(heads[1]), "9.row-1/constants"), "overhead")
 
 
 def stretch(field: str, due: bytes, came: bytes, *cases: str) -> Difference:

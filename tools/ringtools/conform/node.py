@@ -447,7 +447,7 @@ class Clock:
             self.justified = self.t
             before, self.value = self.value, (self.value + (1 if form == "up" else -1)) % 783  # 8.value
             rule = "8.value/over" if abs(before - self.value) > 1 else rule
-        self.t += 1  # 8.clock
+        self.t += 1
         return position, form, rule
 
 
